@@ -1,0 +1,13 @@
+pub mod Scans
+pub mod Searches
+pub mod WordLists
+pub mod Pieces
+pub mod NameLists
+pub mod SentenceLists
+pub mod Moves
+pub mod Lexes
+pub mod Runs
+pub mod Begins
+pub mod Stops
+pub mod Exact
+pub mod Answered

@@ -1,0 +1,12 @@
+pub mod Faults
+pub mod Tokens
+pub mod Scanning
+pub mod Search
+pub mod Cuts
+pub mod Names
+pub mod Naming
+pub mod Grammar
+pub mod Machine
+pub mod Reading
+pub mod Reads
+pub mod Lists

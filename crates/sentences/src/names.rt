@@ -1,0 +1,18 @@
+// The names of a box's facts: one to eight, in their order.
+ghost use Prim.Native.Nat.{_≤_};
+ghost use lib.ListN.{length};
+ghost use mathlib.Core.Path.{_≡_};
+ghost use Rattle.sentences.specs.Names.{Fitting};
+use super::name::Name;
+
+pub mod facts;
+
+#[derive(Clone, Copy)]
+pub struct Names {
+    names: [Name; 8],
+    count: usize,
+    ghost some: { 1 ≤ count },
+    ghost few: { count ≤ length names },
+    ghost all: { length names ≡ 8 },
+    ghost fit: { Fitting names },
+}

@@ -1,0 +1,4 @@
+mod Digits
+mod Words
+mod Tables
+pub mod Laws
