@@ -16,7 +16,7 @@ use Rattle.sentences.proofs.WordLists.{words-length}
 
 pub exactly : (x : Names) (s : List ℕ) (r : Result Meaning SentenceFault) → r ≡ reading (words x) s → Exactly (words x) s r
 exactly x s r e =
-    let some : 1 ≤ length (words x) = omega (arith, x .some, words-length (x .names) (x .count) (x .few)) in
+    let some : 1 ≤ length (words x) = omega (arith, x .some, words-length (x .names) (x .len) (x .few)) in
     record {
       answers = subst (Answers (words x) s) (sym e) (answered (words x) s some);
       only = λ y a. only (words x) s some y a ∙ sym e;

@@ -14,7 +14,7 @@ use Rattle.sentences.specs.Cuts.{pairsFault, pieces, unless}
 use Rattle.sentences.specs.Names.{Word, wordsOf, firstBadName}
 
 abbrev pub words : Names → List Word
-words x = wordsOf (x .names) (x .count)
+words x = wordsOf (x .names) (x .len)
 
 abbrev pub atName : Option ℕ → Option ListFault
 atName (Some i) = Some (BadName i)

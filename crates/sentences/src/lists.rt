@@ -4,7 +4,7 @@ ghost use Prim.Native.Nat.{_≤_};
 ghost use lib.ListN.{length};
 use sheets::SheetSet;
 
-pub mod read;
+pub mod parse;
 
 // The sets of up to eight sentences, in their order.
 #[derive(Clone, Copy)]

@@ -10,9 +10,9 @@ pub mod facts;
 #[derive(Clone, Copy)]
 pub struct Names {
     names: [Name; 8],
-    count: usize,
-    ghost some: { 1 ≤ count },
-    ghost few: { count ≤ length names },
+    len: usize,
+    ghost some: { 1 ≤ len },
+    ghost few: { len ≤ length names },
     ghost all: { length names ≡ 8 },
     ghost fit: { Fitting names },
 }

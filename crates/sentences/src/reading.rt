@@ -13,6 +13,9 @@ use super::symbols::next_symbol;
 use super::tokens::Sign;
 use sheets::SheetSet;
 
+// A text has at most this many bytes.
+const LONGEST: usize = 256;
+
 // What a text means: the sheets in which it is true, and how many tokens it has.
 #[derive(Clone, Copy)]
 pub struct Meaning {
@@ -112,11 +115,11 @@ fn part(names: &Names, text: &[u8], at: usize) -> Result<Progress, SentenceFault
 }
 
 // What the text means, or the first test that it fails: the answer that the grammar gives, and the only one.
-pub fn read(names: &Names, text: &[u8]) -> Result<Meaning, SentenceFault>
+pub fn parse(names: &Names, text: &[u8]) -> Result<Meaning, SentenceFault>
     ensures is { λ r. ⌜ r ≡ readingOf (words (now (names .entry))) (now (text .entry)) ⌝ }
     ensures exact { λ r. ⌜ Exactly (words (now (names .entry))) (now (text .entry)) r ⌝ }
 {
-    if text.len() > 256 {
+    if text.len() > LONGEST {
         return Err(SentenceFault::TooLong);
     }
     let whole = sentence(names, text, 0)?;

@@ -13,7 +13,7 @@ use super::Names;
 
 impl Names {
     // The names of a list, or its first fault: the number of names, then the pairs, then each name in order.
-    pub fn read(list: &CutList) -> Result<Names, ListFault>
+    pub fn parse(list: &CutList) -> Result<Names, ListFault>
         ensures { λ r. ⌜ named r ≡ naming (now (list .entry)) ⌝ }
     {
         if let Some(fault) = list.fault(ListKind::Names, 1) {
@@ -31,19 +31,19 @@ impl Names {
             }
             names[index] = Name::of(word);
         }
-        Ok(Names { names, count })
+        Ok(Names { names, len: count })
     }
 
     pub fn count(&self) -> usize
         ensures { λ r. ⌜ r ≡ length (words (now (self .entry))) ⌝ }
     {
-        self.count
+        self.len
     }
 
     // The index of the name that is the word.
     pub fn fact(&self, word: &[u8]) -> Option<usize>
         ensures { λ r. ⌜ r ≡ factOf (words (now (self .entry))) (now (word .entry)) ⌝ }
     {
-        find(&self.names, self.count, word)
+        find(&self.names, self.len, word)
     }
 }

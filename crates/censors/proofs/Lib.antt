@@ -1,0 +1,4 @@
+pub mod Parts
+pub mod Replays
+pub mod TableRules
+pub mod Guarding

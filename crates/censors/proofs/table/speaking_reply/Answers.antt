@@ -1,0 +1,10 @@
+use mathlib.Core.Path.{ap₂}
+use Prim.Native.Nat.{ℕ}
+use mathlib.Core.List.{[]}
+use lib.ListN.{getD}
+use Rattle.censors.specs.Tables.{speaking, entry, noReply}
+use Rattle.censors.proofs.table.speaking_reply.Needs as need
+
+pub returns : need.returns
+unfolding entry
+returns c = ap₂ (λ (i j : ℕ). getD (getD speaking i []) j noReply) (c .row .ensures .is) (c .column .ensures .is)
