@@ -15,7 +15,7 @@ use Rattle.censors.specs.declared.question.Reply.the-variants.{Said, Mum}
 use Rattle.censors.specs.declared.question.Value.{Value}
 use Rattle.censors.specs.declared.question.Value.the-variants.{Yes, No}
 use Rattle.censors.specs.declared.table.Harm.{Harm}
-use Rattle.censors.specs.Laws.{Few, noSheet, LeftOut, PartOf, SameSheets, Laws}
+use Rattle.censors.specs.Laws.{Few, noSheet, LeftOut, PartOf, Laws}
 use Rattle.censors.specs.Questions.{valueIn, sameValue, withValue}
 use Rattle.censors.specs.Tables.{Table, harmful, entry, refusing, speaking, Rules, Candid, harmOf, decidedBy, entered}
 use Rattle.censors.proofs.Parts.{with-part, with-has}

@@ -5,7 +5,7 @@ use mathlib.Core.List.{List}
 use Prim.Native.Nat.{ℕ, _≤_, _<_}
 use lib.ListN.{length, getD}
 use Rattle.sheets.specs.declared.SheetSet.{SheetSet}
-use Rattle.sheets.specs.Sets.{mem, any, setOf}
+use Rattle.sheets.specs.Sets.{mem, any, setOf, SameMembers}
 use Rattle.censors.specs.declared.question.Decision.{Decision}
 use Rattle.censors.specs.declared.question.Question.{Question}
 use Rattle.censors.specs.declared.question.Reply.{Reply}
@@ -32,9 +32,6 @@ pub record LeftOut (r x : SheetSet) : Type 0 where
 abbrev pub PartOf : SheetSet → SheetSet → Type 0
 PartOf a b = (s : ℕ) → s < 256 → mem a s ≡ true → mem b s ≡ true
 
-abbrev pub SameSheets : SheetSet → SheetSet → Type 0
-SameSheets a b = (s : ℕ) → s < 256 → mem a s ≡ mem b s
-
 -- the start test, the decision and the entry: three functions of what a censor is told
 pub record Laws (good : SheetSet → List SheetSet → Bool) (decided : SheetSet → List SheetSet → Question → Value → Decision)
     (after : SheetSet → List SheetSet → Question → Reply → SheetSet) : Type 0 where
@@ -51,4 +48,4 @@ pub record Laws (good : SheetSet → List SheetSet → Bool) (decided : SheetSet
       → mem (after r xs q (decided r xs q v .reply)) s ≡ true → decided r xs q (valueIn q s) .reply ≡ decided r xs q v .reply
   -- where the record would stay good under every value, the value is said, and the new record has the sheets with that value
   pub plain : (r : SheetSet) (xs : List SheetSet) → Few xs → (q : Question) → ((w : Value) → good (withValue r q w) xs ≡ true) → (v : Value)
-      → (decided r xs q v .reply ≡ Said v) × SameSheets (after r xs q (decided r xs q v .reply)) (withValue r q v)
+      → (decided r xs q v .reply ≡ Said v) × SameMembers (after r xs q (decided r xs q v .reply)) (withValue r q v)

@@ -10,7 +10,7 @@ use lib.Dec.{eqb}
 use lib.ListN.{length, getD}
 use Rattle.std.proofs.shelf.Tests.{and-parts, and-from, and-cases, and-right, ne-eqb, or-left, or-right, or-parts, or-cases, cases-eq, not-false, both-ways}
 use Rattle.sheets.specs.declared.SheetSet.{SheetSet}
-use Rattle.sheets.specs.Sets.{bit, mem, setOf, meet, union, minus, outside, count, every, any, within, withinOne, withinUnion}
+use Rattle.sheets.specs.Sets.{bit, mem, setOf, meet, union, minus, outside, count, every, any, within, withinOne, withinUnion, SameMembers}
 use Rattle.sheets.proofs.Digits.{bit-digits, digits-ext}
 use Rattle.sheets.proofs.Words.{word-setOf, length-setOf, is-setOf}
 
@@ -199,3 +199,31 @@ withinUnion-fails a xs = all-fails (mem a) (λ s. any (λ x. mem x s) xs) 256
 pub withinUnion-not : (a : SheetSet) (xs : List SheetSet) (s : ℕ) → s < 256 → mem a s ≡ true → any (λ x. mem x s) xs ≡ false → withinUnion a xs ≡ false
 unfolding withinUnion
 withinUnion-not a xs = all-not (mem a) (λ s. any (λ x. mem x s) xs) 256
+
+-- ---- the same members
+
+every-ext : (f g : ℕ → Bool) (n : ℕ) → ((s : ℕ) → s < n → f s ≡ g s) → every f n ≡ every g n
+unfolding every
+every-ext f g zero e = refl
+every-ext f g (suc n) e = ap₂ (λ (a b : Bool). a && b) (every-ext f g n (λ s h. e s (omega arith))) (e n (omega arith))
+
+not-and : (a b : Bool) → not (a && not b) ≡ (not a || b)
+not-and true true = refl
+not-and true false = refl
+not-and false b = refl
+
+-- nothing is left of a without b exactly where a lies within b
+pub minus-empty : (a b : SheetSet) → every (λ s. not (mem (minus a b) s)) 256 ≡ within a b
+unfolding within
+minus-empty a b = every-ext _ _ 256 (λ s h. ap not (mem-minus a b s h) ∙ not-and (mem a s) (mem b s))
+
+alike : (a b : Bool) → (a ≡ true → b ≡ true) → (b ≡ true → a ≡ true) → a ≡ b
+alike true b f g = sym (f refl)
+alike false true f g = g refl
+alike false false f g = refl
+
+pub same-within : (a b : SheetSet) → within a b ≡ true → within b a ≡ true → SameMembers a b
+same-within a b f g s h = alike (mem a s) (mem b s) (within-at a b f s h) (within-at b a g s h)
+
+pub within-same : (a b : SheetSet) → SameMembers a b → within a b ≡ true
+within-same a b e = within-from a b (λ s h m. sym (e s h) ∙ m)

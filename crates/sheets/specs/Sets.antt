@@ -1,7 +1,8 @@
 -- Sets of sheets, by their members. A sheet is a number below 256; its binary digit k says whether fact k is true in it.
 use mathlib.Core.Bool.{Bool, true, false, cond, _&&_, _||_, not}
 use mathlib.Core.List.{List, [], _∷_}
-use Prim.Native.Nat.{ℕ, zero, suc, _+_, _/_, _%_, _^_}
+use mathlib.Core.Path.{_≡_}
+use Prim.Native.Nat.{ℕ, zero, suc, _+_, _/_, _%_, _^_, _<_}
 use lib.Dec.{eqb}
 use lib.ListN.{getD}
 use Rattle.sheets.specs.declared.SheetSet.{SheetSet}
@@ -64,3 +65,6 @@ withinOne a xs = any (within a) xs
 -- whether the sets together contain a
 unfoldable pub withinUnion : SheetSet → List SheetSet → Bool
 withinUnion a xs = every (λ s. not (mem a s) || any (λ x. mem x s) xs) 256
+
+abbrev pub SameMembers : SheetSet → SheetSet → Type 0
+SameMembers a b = (s : ℕ) → s < 256 → mem a s ≡ mem b s

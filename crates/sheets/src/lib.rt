@@ -5,7 +5,7 @@ ghost use Prim.Native.Nat.{_≤_, _^_};
 ghost use lib.Count.{ones};
 ghost use lib.Dec.{ltb};
 ghost use Rattle.std.specs.Orderings.{Decides};
-ghost use Rattle.sheets.specs.Sets.{bit, mem, setOf, every, any};
+ghost use Rattle.sheets.specs.Sets.{bit, mem, setOf, every, any, SameMembers};
 ghost use Rattle.sheets.specs.Sets.{meet as meetOf, union as unionOf, minus as minusOf, outside as outsideOf};
 ghost use Rattle.sheets.specs.Sets.{count as countOf, within as withinOf, withinOne, withinUnion};
 
@@ -187,11 +187,11 @@ impl SheetSet {
         self.count() == 0
     }
 
-    // Whether the sets have the same members. A set is no more than its members, so the sets are then equal.
+    // Whether the sets have the same members.
     pub fn same(&self, other: &SheetSet) -> bool
-        ensures { λ r. ⌜ Decides r (now (self .entry) ≡ now (other .entry)) ⌝ }
+        ensures { λ r. ⌜ Decides r (SameMembers (now (self .entry)) (now (other .entry))) ⌝ }
     {
-        self.words == other.words
+        self.minus(other).is_empty() && other.minus(self).is_empty()
     }
 
     // Whether each member is in the other set.
