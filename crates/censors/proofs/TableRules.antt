@@ -5,7 +5,7 @@ use mathlib.Core.List.{List, [], _∷_}
 use Prim.Native.Nat.{ℕ, _<_}
 use native.Mathlib.Omega.{arith}
 use lib.ListN.{length, getD}
-use Rattle.std.proofs.shelf.Tests.{and-parts}
+use Rattle.std.proofs.shelf.Tests.{and-parts, not-true, not-false}
 use Rattle.sheets.specs.declared.SheetSet.{SheetSet}
 use Rattle.sheets.specs.Sets.{mem, any}
 use Rattle.censors.specs.declared.question.Decision.{Decision}
@@ -67,10 +67,6 @@ mum : (a : Reply) → isMum a ≡ true → a ≡ Mum
 mum (Said w) e = absurd (false≢true e)
 mum Mum e = refl
 
-not-true : (b : Bool) → not b ≡ true → b ≡ false
-not-true true e = absurd (false≢true e)
-not-true false e = refl
-
 -- where neither value would harm, the entry is the value
 plain-entry : (t : Table) (h : Harm) (v : Value) (a : Reply) → harmful h Yes ≡ false → harmful h No ≡ false → fine t h v a ≡ true → a ≡ Said v
 plain-entry t h v (Said w) y n e =
@@ -104,13 +100,10 @@ pub speaking-rules : Rules speaking
 unfolding entry
 speaking-rules = rules speaking refl
 
--- a harmless value is said as it is
-abbrev candid : Table → Bool
-candid t = everyHarm (λ h. everyValue (λ v. harmful h v || says (entry t h v) v))
-
 or-else : (a b : Bool) → a ≡ false → (a || b) ≡ true → b ≡ true
 or-else a b e f = sym (ap (λ (x : Bool). x || b) e) ∙ f
 
+-- a harmless value is said as it is
 pub speaking-candid : Candid speaking
 unfolding entry
 speaking-candid h v e =
@@ -126,10 +119,6 @@ module _ (good : SheetSet → List SheetSet → Bool) where
   harm-is : (r : SheetSet) (xs : List SheetSet) (q : Question) (v : Value) → harmful (harmOf good r xs q) v ≡ not (good (withValue r q v) xs)
   harm-is r xs q Yes = refl
   harm-is r xs q No = refl
-
-  not-false : (b : Bool) → not b ≡ false → b ≡ true
-  not-false true e = refl
-  not-false false e = absurd (false≢true (sym e))
 
   -- the record after an entry, by the entry
   entered-part : (r : SheetSet) (q : Question) (a : Reply) → PartOf (entered r q a) r

@@ -1,6 +1,8 @@
 // Decision tables: which reply a value brings, by which replies would harm.
 ghost use mathlib.Core.Path.{_≡_};
+ghost use mathlib.Core.Bool.{false};
 ghost use Prim.Native.Nat.{_<_};
+ghost use Rattle.censors.specs.declared.question.Reply.the-variants.{Said};
 ghost use Rattle.censors.specs.Tables.{harmful, rowOf, columnOf, entry, entered as enteredOf, refusing as refusingTable, speaking as speakingTable};
 use super::question::Question;
 use super::question::Reply;
@@ -63,9 +65,10 @@ pub(crate) fn refusing_reply(harm: &Harm, value: Value) -> Reply
     REFUSING[harm.row()][column(value)]
 }
 
-// The reply of the table that lying and combined share.
+// The reply of the table that lying and combined share. A harmless value is said as it is.
 pub(crate) fn speaking_reply(harm: &Harm, value: Value) -> Reply
-    ensures { λ r. ⌜ r ≡ entry speakingTable (now (harm .entry)) value ⌝ }
+    ensures is { λ r. ⌜ r ≡ entry speakingTable (now (harm .entry)) value ⌝ }
+    ensures candid { λ r. ⌜ (harmful (now (harm .entry)) value ≡ false → r ≡ Said value) ⌝ }
 {
     SPEAKING[harm.row()][column(value)]
 }

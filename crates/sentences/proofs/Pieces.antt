@@ -7,9 +7,10 @@ use native.Mathlib.Omega.{arith}
 use lib.Dec.{leb, ltb}
 use lib.ListN.{length, getD}
 use Rattle.std.proofs.shelf.Lists.{length-map, getD-map}
-use Rattle.std.proofs.shelf.Tests.{and-parts, leb-true, ltb-false}
+use Rattle.std.proofs.shelf.Tests.{and-parts, or-parts, leb-true, ltb-false}
 use Rattle.std.specs.declared.option.Option.{Option}
 use Rattle.std.specs.declared.option.Option.the-variants.{Some, None}
+use Rattle.sentences.specs.declared.cuts.Cut.{Cut}
 use Rattle.sentences.specs.declared.cuts.CutList.{CutList}
 use Rattle.sentences.specs.declared.faults.ListFault.{ListFault}
 use Rattle.sentences.specs.declared.faults.ListKind.{ListKind}
@@ -39,10 +40,6 @@ module _ (x : CutList) where
   no-pair (Some i) e = let z : _≡_ {A = ℕ} 0 1 = cc in absurd (omega arith)
   no-pair None e = refl
 
-  or-right : (a b : Bool) → (a || b) ≡ false → b ≡ false
-  or-right true b e = let z : _≡_ {A = ℕ} 0 1 = cc in absurd (omega arith)
-  or-right false b e = e
-
   pub sound : (k : ListKind) (least : ℕ) → pairsFault k least x ≡ None → Sound least
   unfolding pairsFault firstBadPair badPair
   sound k least e =
@@ -51,5 +48,7 @@ module _ (x : CutList) where
       record {
         enough = leb-true _ _ (n .0);
         few = leb-true _ _ (n .1);
-        inside = λ i h. ltb-false _ _ (or-right _ _ (none-at _ _ (no-pair _ (b .1)) i h));
+        inside = λ i h.
+            let c : Cut = getD (x .cuts .now) i noCut in
+            ltb-false _ _ (or-parts (ltb (c .offset) (frontEnd (x .cuts .now) i)) (ltb (length (x .block .now)) (endOf c)) (none-at _ _ (no-pair _ (b .1)) i h) .1);
       }

@@ -33,13 +33,6 @@ module _ (ns : List Word) (x : CutList) where
     pub full : length xs ≡ 8
     pub rest : readFrom ns 0 (pieces x) ≡ inFront (take i xs) (readFrom ns i (drop i (pieces x)))
 
-  in-front-none : (r : Result (List SheetSet) ListFault) → r ≡ inFront [] r
-  in-front-none (Ok xs) = refl
-  in-front-none (Err f) = refl
-
-  pub gathered-none : (xs : List SheetSet) → length xs ≡ 8 → Gathered xs 0
-  gathered-none xs h = record { full = h; rest = in-front-none _ }
-
   module _ {xs : List SheetSet} {i : ℕ} (g : Gathered xs i) (h : i < length (x .cuts .now)) (t : List ℕ) (is : t ≡ piece (x .block .now) (getD (x .cuts .now) i noCut)) where
     -- the sentence i is read next
     next : readFrom ns 0 (pieces x) ≡ inFront (take i xs) (andThen i (reading ns t) (readFrom ns (i + 1) (drop (i + 1) (pieces x))))

@@ -42,17 +42,9 @@ pub mem-meet : (a b : SheetSet) (s : ℕ) → s < 256 → mem (meet a b) s ≡ (
 unfolding meet
 mem-meet a b = mem-setOf (λ s. mem a s && mem b s)
 
-pub mem-union : (a b : SheetSet) (s : ℕ) → s < 256 → mem (union a b) s ≡ (mem a s || mem b s)
-unfolding union
-mem-union a b = mem-setOf (λ s. mem a s || mem b s)
-
 pub mem-minus : (a b : SheetSet) (s : ℕ) → s < 256 → mem (minus a b) s ≡ (mem a s && not (mem b s))
 unfolding minus
 mem-minus a b = mem-setOf (λ s. mem a s && not (mem b s))
-
-pub mem-outside : (a : SheetSet) (s : ℕ) → s < 256 → mem (outside a) s ≡ not (mem a s)
-unfolding outside
-mem-outside a = mem-setOf (λ s. not (mem a s))
 
 -- ---- operations on sets that are given by a test
 
@@ -63,10 +55,6 @@ meet-setOf f g = setOf-ext _ _ (λ s h. ap₂ (λ (x y : Bool). x && y) (mem-set
 pub union-setOf : (f g : ℕ → Bool) → union (setOf f) (setOf g) ≡ setOf (λ s. f s || g s)
 unfolding union
 union-setOf f g = setOf-ext _ _ (λ s h. ap₂ (λ (x y : Bool). x || y) (mem-setOf f s h) (mem-setOf g s h))
-
-pub minus-setOf : (f g : ℕ → Bool) → minus (setOf f) (setOf g) ≡ setOf (λ s. f s && not (g s))
-unfolding minus
-minus-setOf f g = setOf-ext _ _ (λ s h. ap₂ (λ (x y : Bool). x && not y) (mem-setOf f s h) (mem-setOf g s h))
 
 pub outside-setOf : (f : ℕ → Bool) → outside (setOf f) ≡ setOf (λ s. not (f s))
 unfolding outside
@@ -165,11 +153,6 @@ pub within-not : (a b : SheetSet) (s : ℕ) → s < 256 → mem a s ≡ true →
 unfolding within
 within-not a b = all-not (mem a) (mem b) 256
 
-pub withinOne-at : (a : SheetSet) (xs : List SheetSet) (d : SheetSet) → withinOne a xs ≡ true
-    → (k : ℕ) × (k < length xs) × (within a (getD xs k d) ≡ true)
-unfolding withinOne
-withinOne-at a = any-at (within a)
-
 pub withinOne-from : (a : SheetSet) (xs : List SheetSet) (d : SheetSet) (k : ℕ) → k < length xs → within a (getD xs k d) ≡ true → withinOne a xs ≡ true
 unfolding withinOne
 withinOne-from a = any-from (within a)
@@ -182,10 +165,6 @@ withinOne-fails a xs d e k h = within-fails a (getD xs k d) (any-false (within a
 pub withinOne-not : (a : SheetSet) (xs : List SheetSet) (d : SheetSet) → ((k : ℕ) → k < length xs → within a (getD xs k d) ≡ false) → withinOne a xs ≡ false
 unfolding withinOne
 withinOne-not a = any-none (within a)
-
-pub withinUnion-at : (a : SheetSet) (xs : List SheetSet) → withinUnion a xs ≡ true → (s : ℕ) → s < 256 → mem a s ≡ true → any (λ x. mem x s) xs ≡ true
-unfolding withinUnion
-withinUnion-at a xs = all-at (mem a) (λ s. any (λ x. mem x s) xs) 256
 
 pub withinUnion-from : (a : SheetSet) (xs : List SheetSet) → ((s : ℕ) → s < 256 → mem a s ≡ true → any (λ x. mem x s) xs ≡ true) → withinUnion a xs ≡ true
 unfolding withinUnion
