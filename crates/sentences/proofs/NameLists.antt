@@ -93,6 +93,15 @@ module _ (x : CutList) where
       (subst (λ (n : ℕ). first (λ k. unfit (take k (pieces x)) (getD (pieces x) k [])) n ≡ None) all (c .none))
       ∙ ap Ok (sym (c .words ∙ take-all i (pieces x) (omega arith)) ∙ ap (wordsOf xs) h)
 
+  -- so every name in the table is a name, and new
+  pub collected-proper : {xs : List Name} {i : ℕ} → Collected xs i → i ≡ length (x .cuts .now) → isFound (firstBadName (wordsOf xs (length (x .cuts .now)))) ≡ false
+  unfolding firstBadName
+  collected-proper {xs} {i} c h =
+      let all : i ≡ length (pieces x) = omega (arith, pieces-length x) in
+      let words : wordsOf xs (length (x .cuts .now)) ≡ pieces x = ap (wordsOf xs) (sym h) ∙ c .words ∙ take-all i (pieces x) (omega arith) in
+      ap (λ (ws : List Word). isFound (firstBadName ws)) words
+      ∙ ap isFound (subst (λ (n : ℕ). first (λ k. unfit (take k (pieces x)) (getD (pieces x) k [])) n ≡ None) all (c .none))
+
   pub naming-fault : {f : ListFault} → pairsFault kind.Names 1 x ≡ Some f → naming x ≡ Err f
   unfolding naming
   naming-fault e = ap (λ (o : Option ListFault). unless o (unless (atName (firstBadName (pieces x))) (Ok (pieces x)))) e

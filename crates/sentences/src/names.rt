@@ -1,8 +1,9 @@
 // The names of a box's facts: one to eight, in their order.
 ghost use Prim.Native.Nat.{_≤_};
 ghost use lib.ListN.{length};
+ghost use mathlib.Core.Bool.{false};
 ghost use mathlib.Core.Path.{_≡_};
-ghost use Rattle.sentences.specs.Names.{Fitting};
+ghost use Rattle.sentences.specs.Names.{Fitting, isFound, firstBadName, wordsOf};
 use super::name::Name;
 
 pub mod facts;
@@ -15,4 +16,5 @@ pub struct Names {
     ghost few: { len ≤ length names },
     ghost all: { length names ≡ 8 },
     ghost fit: { Fitting names },
+    ghost proper: { isFound (firstBadName (wordsOf names len)) ≡ false },
 }

@@ -3,7 +3,7 @@ use mathlib.Core.Path.{sym}
 use Prim.Native.Nat.{_<_}
 use native.Mathlib.Omega.{arith}
 use Rattle.sentences.specs.declared.faults.ListKind.the-variants as kind
-use Rattle.sentences.proofs.NameLists.{short-name, collected-none, collected-more, collected-bad, collected-all, naming-fault}
+use Rattle.sentences.proofs.NameLists.{short-name, collected-none, collected-more, collected-bad, collected-all, collected-proper, naming-fault}
 use Rattle.sentences.proofs.Pieces.{sound}
 use Rattle.sentences.proofs.names.Names.parse.Needs as need
 
@@ -44,7 +44,7 @@ loop-index-again c =
 pub ghost-result : need.ghost-result
 ghost-result c =
     let s = sound (c .args .list .now) kind.Names 1 (sym (c .in-rest .ensures tt)) in
-    (s .enough, (omega (arith, s .few, c .loop-index .inv .full), (c .loop-index .inv .full, (c .loop-index .inv .fit, tt))))
+    (s .enough, (omega (arith, s .few, c .loop-index .inv .full), (c .loop-index .inv .full, (c .loop-index .inv .fit, (collected-proper _ (c .loop-index .inv) (omega arith), tt)))))
 
 pub returns : need.returns
 returns c = sym (collected-all _ (c .loop-index .inv) (omega arith) (sym (c .in-rest .ensures tt)))

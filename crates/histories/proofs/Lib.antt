@@ -1,0 +1,14 @@
+pub mod Lookups
+pub mod Replaying
+pub mod Bare
+pub mod Newcomers
+pub mod Filled
+pub mod Facts
+pub mod Proper
+pub mod Notes
+pub mod Moves
+pub mod Sound
+pub mod Covers
+pub mod Unseen
+pub mod Fresh
+pub mod Promised
