@@ -1,12 +1,11 @@
-// The report of one file: its names, its sentences in their order, its lists and a summary.
+// The report of one file: its names, its sentences in their order, its lists, what the censors would do, and a summary.
 ghost use mathlib.Core.Path.{_≡_};
-ghost use Prim.Native.Nat.{_^_};
-ghost use lib.Dec.{ltb};
-ghost use lib.ListN.{length};
-ghost use Rattle.std.specs.Iters.{folded};
-ghost use Rattle.sheets.specs.Sets.{setOf, meet as meetOf};
-ghost use Rattle.sentences.specs.Lists.{setsOf};
-ghost use Rattle.sentences.specs.Naming.{words as wordsOf};
+ghost use mathlib.Core.Bool.{false};
+ghost use mathlib.Core.List.{[], _∷_, _++_};
+ghost use Rattle.std.specs.Of.Vec.{vec-items};
+ghost use Rattle.std.specs.Results.{isOk};
+ghost use Rattle.std.specs.Vec.{made};
+ghost use Rattle.censors.specs.Questions.{questionOf};
 use super::input::Label;
 use super::input::Line;
 use super::input::Split;
@@ -17,12 +16,21 @@ use super::input::words;
 use super::lists::Pieces;
 use super::lists::Unread;
 use super::lists::UnreadDisplay;
+use super::outlook::Asked;
+use super::outlook::Opening;
+use super::outlook::Unopened;
+use super::outlook::UnopenedDisplay;
+use super::outlook::print_outlook;
 use super::refusals::ExplainedRefusal;
 use super::refusals::ExplainedRefusalDisplay;
 use super::show::Shown;
 use super::show::ShownDisplay;
 use super::show::print_caret;
 use super::show::print_set;
+use super::start::keeping;
+use super::start::sheets_of;
+use super::start::starting_record;
+use censors::question::Question;
 use sentences::faults::SentenceFault;
 use sentences::lists::SentenceList;
 use sentences::names::Names;
@@ -40,26 +48,39 @@ enum Naming {
     Known(Names),
 }
 
+// What the file has said so far of what the counterparty knows beforehand.
+#[derive(Clone, Copy)]
+enum Prior {
+    Missing,
+    Refused,
+    Known(SheetSet),
+}
+
 // What the file has given so far.
 #[derive(Drop)]
-struct FileReport {
+struct FileReport<'a> {
     naming: Naming,
     rules: Pieces,
     secrets: Pieces,
+    prior: Prior,
+    // how many questions there are, refused ones too
     questions: usize,
+    asked: Vec<Asked<'a>>,
     accepted: usize,
     refused: usize,
     skipped: usize,
     bad_lines: usize,
 }
 
-impl FileReport {
-    fn new(heap: Global) -> FileReport {
+impl<'a> FileReport<'a> {
+    fn new(heap: Global) -> FileReport<'a> {
         FileReport {
             naming: Naming::Missing,
             rules: Pieces::new(heap),
             secrets: Pieces::new(heap),
+            prior: Prior::Missing,
             questions: 0,
+            asked: Vec::new(heap),
             accepted: 0,
             refused: 0,
             skipped: 0,
@@ -72,12 +93,76 @@ impl FileReport {
         match label {
             Label::Rule => self.rules.add(text),
             Label::Secret => self.secrets.add(text),
+            Label::Prior => Ok(0),
             Label::Question => {
                 let number = self.questions;
                 self.questions = number.saturating_add(1);
                 Ok(number)
             }
         }
+    }
+
+    // Keeps what an accepted sentence means. Rules and secrets are read once more, as lists.
+    fn accept(
+        &mut self,
+        label: Label,
+        number: usize,
+        text: &'a [u8],
+        sheets: SheetSet,
+    ) -> Result<(), AllocError>
+        ensures prior { λ _. ⌜ (label ≡ Label.Prior → now (self .exit) .prior ≡ Prior.Known sheets) ⌝ }
+        ensures asked { λ r. ⌜ made r (λ _. label ≡ Label.Question → vec-items (now (self .exit) .asked) ≡ vec-items (now (self .entry) .asked) ++ record { number = number; text = text .entry; question = questionOf sheets } ∷ []) ⌝ }
+    {
+        self.accepted = self.accepted.saturating_add(1);
+        match label {
+            Label::Rule | Label::Secret => {}
+            Label::Prior => self.prior = Prior::Known(sheets),
+            Label::Question => {
+                let asked = Asked {
+                    number,
+                    text,
+                    question: Question::new(sheets),
+                };
+                self.asked.push(asked)?;
+            }
+        }
+        Ok(())
+    }
+
+    fn refuse(&mut self, label: Label)
+        ensures { λ _. ⌜ (label ≡ Label.Prior → now (self .exit) .prior ≡ Prior.Refused) ⌝ }
+    {
+        self.refused = self.refused.saturating_add(1);
+        if let Label::Prior = label {
+            self.prior = Prior::Refused;
+        }
+    }
+
+    // Where the censors start from, or the first thing that is lacking for that.
+    fn opening(&self) -> Result<Opening, Unopened>
+        ensures names { λ r. ⌜ (now (self .entry) .naming ≡ Naming.Refused → isOk r ≡ false) ⌝ }
+        ensures prior { λ r. ⌜ (now (self .entry) .prior ≡ Prior.Refused → isOk r ≡ false) ⌝ }
+    {
+        let names = match self.naming {
+            Naming::Missing => return Err(Unopened::NoNames),
+            Naming::Refused => return Err(Unopened::NamesRefused),
+            Naming::Known(names) => names,
+        };
+        let Ok(rules) = self.rules.house_rules(&names) else {
+            return Err(Unopened::HouseRules);
+        };
+        let Ok(secrets) = self.secrets.secrets(&names) else {
+            return Err(Unopened::Secrets);
+        };
+        let prior = match self.prior {
+            Prior::Missing => None,
+            Prior::Refused => return Err(Unopened::Prior),
+            Prior::Known(sheets) => Some(sheets),
+        };
+        Ok(Opening {
+            known: starting_record(&names, &rules, prior),
+            secrets,
+        })
     }
 }
 
@@ -92,14 +177,15 @@ pub fn report(rt: &LibcRuntime, name: &str, text: &[u8]) -> io::Result<()> {
         report_line(rt, &mut so_far, number, without_return(line))?;
     }
     report_lists(rt, &so_far)?;
+    report_censors(rt, &so_far)?;
     report_summary(rt, &so_far)
 }
 
-fn report_line(
+fn report_line<'a>(
     rt: &LibcRuntime,
-    so_far: &mut FileReport,
+    so_far: &mut FileReport<'a>,
     number: usize,
-    line: &[u8],
+    line: &'a [u8],
 ) -> io::Result<()> {
     match read_line(line) {
         Line::Nothing => Ok(()),
@@ -115,7 +201,12 @@ fn report_line(
                 so_far.skipped = so_far.skipped.saturating_add(1);
                 Ok(())
             }
-            Naming::Known(names) => report_sentence(rt, so_far, &names, label, text),
+            Naming::Known(names) => match (label, so_far.prior) {
+                (Label::Prior, Prior::Refused | Prior::Known(_)) => {
+                    report_bad_line(rt, so_far, number, "the prior was given before")
+                }
+                _ => report_sentence(rt, so_far, &names, label, text),
+            },
         },
         Line::UnknownLabel(label) => {
             let label = Shown { text: label };
@@ -162,24 +253,24 @@ fn print_names(rt: &LibcRuntime, words: &[&[u8]]) -> io::Result<()> {
     Ok(())
 }
 
-fn report_sentence(
+fn report_sentence<'a>(
     rt: &LibcRuntime,
-    so_far: &mut FileReport,
+    so_far: &mut FileReport<'a>,
     names: &Names,
     label: Label,
-    text: &[u8],
+    text: &'a [u8],
 ) -> io::Result<()> {
     let number = so_far.add(label, text)?;
-    let label = label.name();
+    let name = label.name();
     let shown = Shown { text };
-    println!(rt, "{label} {number}: {shown}")?;
+    println!(rt, "{name} {number}: {shown}")?;
     match parse(names, text) {
         Ok(meaning) => {
-            so_far.accepted = so_far.accepted.saturating_add(1);
+            so_far.accept(label, number, text, meaning.sheets)?;
             print_set(rt, &meaning.sheets, sheets_of(names).count())
         }
         Err(fault) => {
-            so_far.refused = so_far.refused.saturating_add(1);
+            so_far.refuse(label);
             print_refusal(rt, text, fault)
         }
     }
@@ -195,13 +286,6 @@ fn print_refusal(rt: &LibcRuntime, text: &[u8], fault: SentenceFault) -> io::Res
         SentenceFault::Unknown(place) => print_caret(rt, text, place),
         SentenceFault::Misfit(place) => print_caret(rt, text, place),
     }
-}
-
-// The sheets of a box with these names.
-fn sheets_of(names: &Names) -> SheetSet
-    ensures { λ r. ⌜ r ≡ setOf (λ s. ltb s (2 ^ length (wordsOf (now (names .entry))))) ⌝ }
-{
-    SheetSet::below(names.count())
 }
 
 fn report_lists(rt: &LibcRuntime, so_far: &FileReport) -> io::Result<()> {
@@ -241,15 +325,11 @@ fn print_list(rt: &LibcRuntime, what: &str, list: &Result<SentenceList, Unread>)
     }
 }
 
-// The sheets that keep every house rule.
-fn keeping(names: &Names, rules: &SentenceList) -> SheetSet
-    ensures { λ r. ⌜ r ≡ folded meetOf (setOf (λ s. ltb s (2 ^ length (wordsOf (now (names .entry)))))) (setsOf (now (rules .entry))) ⌝ }
-{
-    let mut kept = sheets_of(names);
-    for set in rules.sets() {
-        kept = kept.meet(set);
+fn report_censors(rt: &LibcRuntime, so_far: &FileReport) -> io::Result<()> {
+    match so_far.opening() {
+        Ok(opening) => print_outlook(rt, &opening, so_far.asked.as_slice()),
+        Err(why) => println!(rt, "no censors, since {why}"),
     }
-    kept
 }
 
 fn report_summary(rt: &LibcRuntime, so_far: &FileReport) -> io::Result<()> {

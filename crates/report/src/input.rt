@@ -10,6 +10,8 @@ use std::alloc::Global;
 pub enum Label {
     Rule,
     Secret,
+    // what the counterparty knows beforehand
+    Prior,
     Question,
 }
 
@@ -18,6 +20,7 @@ impl Label {
         match self {
             Label::Rule => "rule",
             Label::Secret => "secret",
+            Label::Prior => "prior",
             Label::Question => "question",
         }
     }
@@ -45,6 +48,7 @@ pub fn read_line(line: &[u8]) -> Line<'_> {
         b"names" => Line::Names(rest),
         b"rule" => Line::Sentence(Label::Rule, rest),
         b"secret" => Line::Sentence(Label::Secret, rest),
+        b"prior" => Line::Sentence(Label::Prior, rest),
         b"question" => Line::Sentence(Label::Question, rest),
         _ => Line::UnknownLabel(label),
     }

@@ -1,4 +1,5 @@
-// Reads files of names and sentences, and prints what each sentence means or why it is refused.
+// Reads files of names and sentences, and prints what each sentence means or why it is refused,
+// and what each censor would reply.
 use std::env;
 use std::error::AnyError;
 use std::fs;
@@ -7,8 +8,10 @@ use std::io::Read;
 mod file_report;
 mod input;
 mod lists;
+mod outlook;
 mod refusals;
 mod show;
+mod start;
 
 fn main(rt: LibcRuntime) -> Result<(), AnyError> {
     rt.report(run(&rt))

@@ -5,7 +5,7 @@ use Rattle.std.specs.Iters.{folded}
 use Rattle.std.proofs.shelf.Lists.{take-all}
 use Rattle.std.proofs.shelf.Sums.{folded-more}
 use Rattle.sheets.specs.Sets.{meet}
-use Rattle.report.proofs.file_report.keeping.Needs as need
+use Rattle.report.proofs.start.keeping.Needs as need
 
 pub loop-set-again : need.loop-set-again
 loop-set-again c = search (needs, folded-more)
