@@ -1,4 +1,6 @@
 // Sets of sheets, each held in four words of 64 bits: sheet s is a member when bit s % 64 of word s / 64 is set.
+#![tactic(auto)]
+
 ghost use Rattle.std.specs.Prelude.{◌≡◌, ◌^◌, ◌≤◌, false, not, Decides, count_ones, nat_lt};
 ghost use Rattle.sheets.specs.Sets.{bit, mem, set_of, every, any, SameMembers};
 ghost use Rattle.sheets.specs.Sets.{meet as meet_of, union as union_of, minus as minus_of, outside as outside_of};
