@@ -1,4 +1,6 @@
 // Cut lists, names, tokens and sentences: what a text means, or why it is refused.
+#![tactic(auto)]
+
 pub mod cuts;
 pub mod faults;
 pub mod lists;

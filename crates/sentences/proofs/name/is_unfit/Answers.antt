@@ -3,9 +3,9 @@ use Rattle.std.proofs.lemmas.Bool.Decides.{nat_tests}
 use Rattle.sentences.specs.Names.{unfit}
 use Rattle.sentences.proofs.name.is_unfit.Goals as goal
 
-pub returns-then-not-is-name : goal.returns-then-not-is-name
+pub returns-then-not-is_name : goal.returns-then-not-is_name
 unfolding unfit
-returns-then-not-is-name c = search rules
+returns-then-not-is_name c = search rules
 
 pub returns : goal.returns
 unfolding unfit

@@ -8,79 +8,79 @@ use Rattle.sentences.specs.Machine.{on, want}
 use Rattle.sentences.proofs.Moves.{found, none_found, part_end, part-fact, part-not, part-not-fails, part-misfit, group-fails, group-then, group-end, group-misfit, group-closes, clause-fails, clause-more, sentence-fails, sentence-more}
 use Rattle.sentences.proofs.reading.+clause_part_sentence.Goals as goal
 
-pub clause-returns-in-err-more : goal.clause-returns-in-err-more
-clause-returns-in-err-more t c =
-    let p = err_from_is_err_and c.from-residual-in-err-more.result c.from-residual-in-err-more.ensures.1 in
-    let m = found _ _ _ c.in-ok-found.ensures c.in-Some.is in
-    rw (p.1, p.2) (clause-fails _ _ c.loop-found.invariant m (search rules) c.in-err-more.ensures)
+pub clause-returns-in_err-more : goal.clause-returns-in_err-more
+clause-returns-in_err-more t c =
+    let p = err_from_is_err_and c.from_residual-in_err-more.result c.from_residual-in_err-more.ensures.1 in
+    let m = found _ _ _ c.in_ok-found.ensures c.in-Some.is in
+    rw (p.1, p.2) (clause-fails _ _ c.loop-found.invariant m (search rules) c.in_err-more.ensures)
 
 pub clause-loop-found-preserved : goal.clause-loop-found-preserved
 clause-loop-found-preserved t c =
-    let m = found _ _ _ c.in-ok-found.ensures c.in-Some.is in
-    rw c.meet.ensures (clause-more _ _ c.loop-found.invariant m (search rules) c.in-ok-more.ensures)
+    let m = found _ _ _ c.in_ok-found.ensures c.in-Some.is in
+    rw c.meet.ensures (clause-more _ _ c.loop-found.invariant m (search rules) c.in_ok-more.ensures)
 
-pub part-returns-in-default : goal.part-returns-in-default
-part-returns-in-default t c = part_end _ _ _ (none_found _ _ _ c.in-ok-found.ensures c.in-default.is)
+pub part-returns-in_default : goal.part-returns-in_default
+part-returns-in_default t c = part_end _ _ _ (none_found _ _ _ c.in_ok-found.ensures c.in_default.is)
 
-pub part-returns-in-err-inner : goal.part-returns-in-err-inner
-part-returns-in-err-inner t c =
-    let p = err_from_is_err_and c.from-residual-in-err-inner.result c.from-residual-in-err-inner.ensures.1 in
-    let m = found _ _ _ c.in-ok-found.ensures c.in-Some.is in
-    rw (p.1, p.2) (part-not-fails _ _ m (c.in-Sign.is ∙ ap Sign c.in-Not.is) c.in-err-inner.ensures)
+pub part-returns-in_err-inner-in-Not : goal.part-returns-in_err-inner-in-Not
+part-returns-in_err-inner-in-Not t c =
+    let p = err_from_is_err_and c.from_residual-in_err-inner-in-Not.result c.from_residual-in_err-inner-in-Not.ensures.1 in
+    let m = found _ _ _ c.in_ok-found.ensures c.in-Some.is in
+    rw (p.1, p.2) (part-not-fails _ _ m (c.in-Sign.is ∙ ap Sign c.in-Not.is) c.in_err-inner-in-Not.ensures)
 
-pub part-returns-in-err-inner-2 : goal.part-returns-in-err-inner-2
-part-returns-in-err-inner-2 t c =
-    let p = err_from_is_err_and c.from-residual-in-err-inner-2.result c.from-residual-in-err-inner-2.ensures.1 in
-    let m = found _ _ _ c.in-ok-found.ensures c.in-Some.is in
-    rw (p.1, p.2) (group-fails _ _ m (c.in-Sign.is ∙ ap Sign c.in-Open.is) c.in-err-inner-2.ensures)
+pub part-returns-in_err-inner-in-Open : goal.part-returns-in_err-inner-in-Open
+part-returns-in_err-inner-in-Open t c =
+    let p = err_from_is_err_and c.from_residual-in_err-inner-in-Open.result c.from_residual-in_err-inner-in-Open.ensures.1 in
+    let m = found _ _ _ c.in_ok-found.ensures c.in-Some.is in
+    rw (p.1, p.2) (group-fails _ _ m (c.in-Sign.is ∙ ap Sign c.in-Open.is) c.in_err-inner-in-Open.ensures)
 
-pub part-returns-in-err-last : goal.part-returns-in-err-last
-part-returns-in-err-last t c =
-    let p = err_from_is_err_and c.from-residual-in-err-last.result c.from-residual-in-err-last.ensures.1 in
-    let m = found _ _ _ c.in-ok-found.ensures c.in-Some.is in
-    rw (p.1, p.2) (group-then _ _ m (c.in-Sign.is ∙ ap Sign c.in-Open.is) c.in-ok-inner-2.ensures c.in-err-last.ensures)
+pub part-returns-in_err-last-in-Open : goal.part-returns-in_err-last-in-Open
+part-returns-in_err-last-in-Open t c =
+    let p = err_from_is_err_and c.from_residual-in_err-last-in-Open.result c.from_residual-in_err-last-in-Open.ensures.1 in
+    let m = found _ _ _ c.in_ok-found.ensures c.in-Some.is in
+    rw (p.1, p.2) (group-then _ _ m (c.in-Sign.is ∙ ap Sign c.in-Open.is) c.in_ok-inner-in-Open.ensures c.in_err-last-in-Open.ensures)
 
-pub part-returns-in-default-2 : goal.part-returns-in-default-2
-part-returns-in-default-2 t c =
-    let m = found _ _ _ c.in-ok-found.ensures c.in-Some.is in
-    group-end _ _ m (c.in-Sign.is ∙ ap Sign c.in-Open.is) c.in-ok-inner-2.ensures (none_found (words c.args.names.now) c.args.text.now c.in-ok-inner-2.inner.after c.in-ok-last.ensures c.in-default-2.is)
+pub part-returns-in_default-2 : goal.part-returns-in_default-2
+part-returns-in_default-2 t c =
+    let m = found _ _ _ c.in_ok-found.ensures c.in-Some.is in
+    group-end _ _ m (c.in-Sign.is ∙ ap Sign c.in-Open.is) c.in_ok-inner-in-Open.ensures (none_found (words c.args.names.now) c.args.text.now c.in_ok-inner-in-Open.inner.after c.in_ok-last-in-Open.ensures c.in_default-2.is)
 
 pub part-returns-then-not-is : goal.part-returns-then-not-is
 part-returns-then-not-is t c =
-    let m = found _ _ _ c.in-ok-found.ensures c.in-Some.is in
-    let k = found (words c.args.names.now) c.args.text.now c.in-ok-inner-2.inner.after c.in-ok-last.ensures c.in-Some-2.is in
-    group-misfit _ _ m (c.in-Sign.is ∙ ap Sign c.in-Open.is) c.in-ok-inner-2.ensures k (λ e. false≢true (sym c.if-not-is.true ∙ c.is.ensures.1 e))
+    let m = found _ _ _ c.in_ok-found.ensures c.in-Some.is in
+    let k = found (words c.args.names.now) c.args.text.now c.in_ok-inner-in-Open.inner.after c.in_ok-last-in-Open.ensures c.in-Some-2.is in
+    group-misfit _ _ m (c.in-Sign.is ∙ ap Sign c.in-Open.is) c.in_ok-inner-in-Open.ensures k (λ e. false≢true (sym c.if-not-is.true ∙ c.is.ensures.1 e))
 
 pub part-returns-in-Fact : goal.part-returns-in-Fact
 part-returns-in-Fact t c =
-    let m = found _ _ _ c.in-ok-found.ensures c.in-Some.is in
+    let m = found _ _ _ c.in_ok-found.ensures c.in-Some.is in
     rw c.fact.ensures (part-fact _ _ m c.in-Fact.is)
 
-pub part-returns-in-ok-inner : goal.part-returns-in-ok-inner
-part-returns-in-ok-inner t c =
-    let m = found _ _ _ c.in-ok-found.ensures c.in-Some.is in
-    rw c.outside.ensures (part-not _ _ m (c.in-Sign.is ∙ ap Sign c.in-Not.is) c.in-ok-inner.ensures)
+pub part-returns-in_ok-inner-in-Not : goal.part-returns-in_ok-inner-in-Not
+part-returns-in_ok-inner-in-Not t c =
+    let m = found _ _ _ c.in_ok-found.ensures c.in-Some.is in
+    rw c.outside.ensures (part-not _ _ m (c.in-Sign.is ∙ ap Sign c.in-Not.is) c.in_ok-inner-in-Not.ensures)
 
 pub part-returns-else-not-is : goal.part-returns-else-not-is
 part-returns-else-not-is t c =
-    let m = found _ _ _ c.in-ok-found.ensures c.in-Some.is in
-    let k = found (words c.args.names.now) c.args.text.now c.in-ok-inner-2.inner.after c.in-ok-last.ensures c.in-Some-2.is in
-    group-closes _ _ m (c.in-Sign.is ∙ ap Sign c.in-Open.is) c.in-ok-inner-2.ensures k (search rules)
+    let m = found _ _ _ c.in_ok-found.ensures c.in-Some.is in
+    let k = found (words c.args.names.now) c.args.text.now c.in_ok-inner-in-Open.inner.after c.in_ok-last-in-Open.ensures c.in-Some-2.is in
+    group-closes _ _ m (c.in-Sign.is ∙ ap Sign c.in-Open.is) c.in_ok-inner-in-Open.ensures k (search rules)
 
 pub part-returns-in-And : goal.part-returns-in-And
 part-returns-in-And t c =
-    let m = found _ _ _ c.in-ok-found.ensures c.in-Some.is in
+    let m = found _ _ _ c.in_ok-found.ensures c.in-Some.is in
     part-misfit _ _ m (λ g fs.
     ap (on (want g fs)) c.in-Sign.is
     ∙ ⊎_elim (λ e. ap (λ h. on (want g fs) (Sign h)) e) (⊎_elim (λ e. ap (λ h. on (want g fs) (Sign h)) e) (λ e. ap (λ h. on (want g fs) (Sign h)) e)) c.in-And.is)
 
-pub sentence-returns-in-err-more : goal.sentence-returns-in-err-more
-sentence-returns-in-err-more t c =
-    let p = err_from_is_err_and c.from-residual-in-err-more.result c.from-residual-in-err-more.ensures.1 in
-    let m = found _ _ _ c.in-ok-found.ensures c.in-Some.is in
-    rw (p.1, p.2) (sentence-fails _ _ c.loop-found.invariant m (search rules) c.in-err-more.ensures)
+pub sentence-returns-in_err-more : goal.sentence-returns-in_err-more
+sentence-returns-in_err-more t c =
+    let p = err_from_is_err_and c.from_residual-in_err-more.result c.from_residual-in_err-more.ensures.1 in
+    let m = found _ _ _ c.in_ok-found.ensures c.in-Some.is in
+    rw (p.1, p.2) (sentence-fails _ _ c.loop-found.invariant m (search rules) c.in_err-more.ensures)
 
 pub sentence-loop-found-preserved : goal.sentence-loop-found-preserved
 sentence-loop-found-preserved t c =
-    let m = found _ _ _ c.in-ok-found.ensures c.in-Some.is in
-    rw c.union.ensures (sentence-more _ _ c.loop-found.invariant m (search rules) c.in-ok-more.ensures)
+    let m = found _ _ _ c.in_ok-found.ensures c.in-Some.is in
+    rw c.union.ensures (sentence-more _ _ c.loop-found.invariant m (search rules) c.in_ok-more.ensures)

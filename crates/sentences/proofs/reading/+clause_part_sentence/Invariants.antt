@@ -14,13 +14,13 @@ abbrev pub decreases-part : goal.decreases-part
 decreases-part l = 3 * (length l.text.now - l.at)
 
 abbrev pub invariant-clause-loop-found : goal.invariant-clause-loop-found
-invariant-clause-loop-found l = ClauseSoFar (words l.names) l.text l.at l.so-far.sheets l.so-far.tokens l.so-far.after
+invariant-clause-loop-found l = ClauseSoFar (words l.names) l.text l.at l.so_far.sheets l.so_far.tokens l.so_far.after
 
 abbrev pub decreases-clause-loop-found : goal.decreases-clause-loop-found
-decreases-clause-loop-found l = length l.text - l.so-far.after
+decreases-clause-loop-found l = length l.text - l.so_far.after
 
 abbrev pub invariant-sentence-loop-found : goal.invariant-sentence-loop-found
-invariant-sentence-loop-found l = SentenceSoFar (words l.names) l.text l.at l.so-far.sheets l.so-far.tokens l.so-far.after
+invariant-sentence-loop-found l = SentenceSoFar (words l.names) l.text l.at l.so_far.sheets l.so_far.tokens l.so_far.after
 
 abbrev pub decreases-sentence-loop-found : goal.decreases-sentence-loop-found
-decreases-sentence-loop-found l = length l.text - l.so-far.after
+decreases-sentence-loop-found l = length l.text - l.so_far.after

@@ -3,9 +3,9 @@ use Rattle.std.proofs.Common.{rules}
 use Rattle.sentences.specs.Tokens.{class_of}
 use Rattle.sentences.proofs.tokens.classify.Goals as goal
 
-pub returns-then-is-word-byte : goal.returns-then-is-word-byte
+pub returns-then-is_word_byte : goal.returns-then-is_word_byte
 unfolding class_of
-returns-then-is-word-byte c = search rules
+returns-then-is_word_byte c = search rules
 
 pub returns-in-32 : goal.returns-in-32
 unfolding class_of
@@ -31,6 +31,6 @@ pub returns-in-41 : goal.returns-in-41
 unfolding class_of
 returns-in-41 c = search rules
 
-pub returns-in-default : goal.returns-in-default
+pub returns-in_default : goal.returns-in_default
 unfolding class_of
-returns-in-default c = search rules
+returns-in_default c = search rules

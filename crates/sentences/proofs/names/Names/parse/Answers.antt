@@ -12,36 +12,42 @@ loop-index-init c = collected-none _
 
 pub piece-word-requires : goal.piece-word-requires
 piece-word-requires c =
-    (c.loop-index-test.true, (sound c.args.list.now kind.Names 1 (sym c.in-default.ensures)).inside _ c.loop-index-test.true)
+    (c.loop-index-test.true, (sound c.args.list.now kind.Names 1 (sym c.in_default.ensures)).inside _ c.loop-index-test.true)
 
-pub is-unfit-requires : goal.is-unfit-requires
-is-unfit-requires c =
-    (omega (arith, (sound c.args.list.now kind.Names 1 (sym c.in-default.ensures)).few), c.loop-index.invariant.fit)
+pub is_unfit-requires : goal.is_unfit-requires
+is_unfit-requires c =
+    (omega (arith, (sound c.args.list.now kind.Names 1 (sym c.in_default.ensures)).few), c.loop-index.invariant.fit)
 
-pub returns-then-is-unfit : goal.returns-then-is-unfit
-returns-then-is-unfit c =
-    sym (collected-bad _ c.loop-index.invariant c.loop-index-test.true _ c.piece-word.ensures (sym c.in-default.ensures) (sym c.if-is-unfit.ensures))
+pub returns-then-is_unfit : goal.returns-then-is_unfit
+returns-then-is_unfit c =
+    sym (collected-bad _ c.loop-index.invariant c.loop-index-test.true _ c.piece-word.ensures (sym c.in_default.ensures) (sym c.if-is_unfit.ensures))
 
 pub of-requires : goal.of-requires
-of-requires c = short_name _ _ (sym c.if-is-unfit.ensures)
+of-requires c = short_name _ _ (sym c.if-is_unfit.ensures)
 
-pub offset-bounds-names-index : goal.offset-bounds-names-index
-offset-bounds-names-index c =
-    let few : c.loop-index.index < 8 = omega (arith, (sound c.args.list.now kind.Names 1 (sym c.in-default.ensures)).few) in search rules
+pub offset_bounds-names-index : goal.offset_bounds-names-index
+offset_bounds-names-index c =
+    let few : c.loop-index.index < 8 = omega (arith, (sound c.args.list.now kind.Names 1 (sym c.in_default.ensures)).few) in search rules
 
 pub bounds-names-index : goal.bounds-names-index
-bounds-names-index c = omega (arith, (sound c.args.list.now kind.Names 1 (sym c.in-default.ensures)).few)
+bounds-names-index c = omega (arith, (sound c.args.list.now kind.Names 1 (sym c.in_default.ensures)).few)
 
 pub loop-index-preserved : goal.loop-index-preserved
 loop-index-preserved c =
     collected-more _ c.loop-index.invariant c.loop-index-test.true _ c.piece-word.ensures _
-    (omega (arith, (sound c.args.list.now kind.Names 1 (sym c.in-default.ensures)).few))
-    (sym c.if-is-unfit.ensures) c.of.ensures.spelled c.of.ensures.fits
+    (omega (arith, (sound c.args.list.now kind.Names 1 (sym c.in_default.ensures)).few))
+    (sym c.if-is_unfit.ensures) c.of.ensures.spelled c.of.ensures.fits
 
-pub invariant-of-result : goal.invariant-of-result
-invariant-of-result c =
-    let s = sound c.args.list.now kind.Names 1 (sym c.in-default.ensures) in
-    (s.enough, (omega (arith, s.few, c.loop-index.invariant.full), (c.loop-index.invariant.full, (c.loop-index.invariant.fit, (collected-proper _ c.loop-index.invariant (omega arith), tt)))))
+pub invariant_of-result : goal.invariant_of-result
+invariant_of-result c =
+    let s = sound c.args.list.now kind.Names 1 (sym c.in_default.ensures) in
+    record {
+      some = s.enough;
+      few = omega (arith, s.few, c.loop-index.invariant.full);
+      all = c.loop-index.invariant.full;
+      fit = c.loop-index.invariant.fit;
+      proper = collected-proper _ c.loop-index.invariant (omega arith);
+    }
 
 pub returns : goal.returns
-returns c = sym (collected-all _ c.loop-index.invariant (omega arith) (sym c.in-default.ensures))
+returns c = sym (collected-all _ c.loop-index.invariant (omega arith) (sym c.in_default.ensures))
