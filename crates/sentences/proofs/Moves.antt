@@ -1,5 +1,5 @@
 -- How the machine moves over a text, and how readings grow.
-use Rattle.std.proofs.Common.{◌≡◌, ℕ, suc, ◌+◌, ◌^◌, ◌<◌, ◌≤◌, Bool, cond, ltb, List, [], ◌∷◌, length, Some, None, Ok, Err, Option, Result, sym, refl, ap, ◌∙◌, subst, ap₂, arith}
+use Rattle.std.proofs.Common.{◌≡◌, ℕ, suc, ◌+◌, ◌^◌, ◌<◌, ◌≤◌, Bool, cond, ltb, List, [], ◌∷◌, length, Some, None, Ok, Err, Option, refl, ap, ◌∙◌, subst, ap₂, arith}
 use Rattle.std.proofs.lemmas.Bool.{lt-ltb, le-ltb}
 use Rattle.sheets.specs.declared.SheetSet.{SheetSet}
 use Rattle.sheets.specs.Sets.{bit, set_of, meet, union, outside}
@@ -13,7 +13,7 @@ use Rattle.sentences.specs.declared.tokens.Sign.{Sign as SignT}
 use Rattle.sentences.specs.declared.tokens.Sign.TheVariants.{Not, And, Or, Open, Close}
 use Rattle.sentences.specs.Names.{Word, fact_of}
 use Rattle.sentences.specs.Tokens.{Tok, sign, word}
-use Rattle.sentences.specs.Scanning.{Scan, end, stray, token, scan_at, Goes}
+use Rattle.sentences.specs.Scanning.{end, stray, token, scan_at, Goes}
 use Rattle.sentences.specs.Machine.{symbol_of, Frame, frame, State, want, got, fresh, or_with, and_with, negated, fact_symbol, on, finish, if_named, if_fits, parse, tokens_in, meaning, reading}
 use Rattle.sentences.specs.Reads.{Symbolic, NextSymbol, Stretch, Lacks, PartRead, ClauseSoFar, ClauseRead, SentenceSoFar, SentenceRead}
 

@@ -1,5 +1,5 @@
 -- Names taken from a list one after the other.
-use Rattle.std.proofs.Common.{◌≡◌, ℕ, zero, suc, ◌+◌, ◌<◌, ◌≤◌, Bool, true, false, not, ◌&&◌, ◌||◌, leb, List, [], ◌∷◌, ◌++◌, map, length, get_or, take, set, replicate, Some, None, Ok, Err, Option, sym, refl, ap, ◌∙◌, subst, ap₂, ⊎_elim, arith, length-set, get_or-set_other, get_or-set_same}
+use Rattle.std.proofs.Common.{◌≡◌, ℕ, zero, suc, ◌+◌, ◌<◌, ◌≤◌, Bool, true, false, ◌&&◌, leb, List, [], ◌∷◌, ◌++◌, map, length, get_or, take, set, replicate, Some, None, Ok, Err, Option, sym, refl, ap, ◌∙◌, subst, ap₂, ⊎_elim, arith, length-set, get_or-set_other, get_or-set_same}
 use Rattle.std.proofs.lemmas.List.{take_more, take_more_set, take_all, map_push}
 use Rattle.std.proofs.lemmas.Bool.{and_parts, leb-true, cases_eq}
 use Rattle.std.proofs.lemmas.Bool.Decides.{nat_tests}
@@ -9,7 +9,7 @@ use Rattle.sentences.specs.declared.faults.ListFault.TheVariants.{BadName}
 use Rattle.sentences.specs.declared.faults.ListKind.TheVariants as kind
 use Rattle.sentences.specs.declared.name.Name.{Name}
 use Rattle.sentences.specs.Cuts.{no_cut, piece, pieces, pairs_fault, unless}
-use Rattle.sentences.specs.Names.{Word, spelling, no_name, words_of, Fitting, is_name, is_found, fact_of, unfit, first_bad_name}
+use Rattle.sentences.specs.Names.{Word, spelling, no_name, words_of, Fitting, is_name, is_found, unfit, first_bad_name}
 use Rattle.sentences.specs.Naming.{at_name, naming}
 use Rattle.sentences.specs.Search.{first}
 use Rattle.sentences.proofs.Pieces.{pieces-length, piece-at}

@@ -1,12 +1,12 @@
 -- What stands in a text from a place on, by the byte at that place.
-use Rattle.std.proofs.Common.{◌≡◌, ℕ, zero, suc, ◌+◌, ◌-◌, ◌<◌, ◌≤◌, Bool, true, false, List, [], ◌∷◌, length, get_or, take, drop, sym, refl, ap, ◌∙◌, subst, ap₂, ⊎_elim, arith}
+use Rattle.std.proofs.Common.{◌≡◌, ℕ, zero, suc, ◌+◌, ◌-◌, ◌<◌, ◌≤◌, Bool, true, false, List, ◌∷◌, length, get_or, take, drop, sym, refl, ap, ◌∙◌, subst, ap₂, ⊎_elim, arith}
 use Rattle.std.proofs.lemmas.Bool.{cases_eq, cases_lt}
-use Rattle.std.proofs.lemmas.List.{drop_more, drop_all, at_drop_more, at_drop_all}
+use Rattle.std.proofs.lemmas.List.{drop_more, at_drop_more, at_drop_all}
 use Rattle.sentences.specs.declared.tokens.Sign.{Sign}
 use Rattle.sentences.specs.declared.tokens.Class.{Class}
 use Rattle.sentences.specs.declared.tokens.Class.TheVariants as class
-use Rattle.sentences.specs.Tokens.{Tok, sign, word, class_of, Run, Letters}
-use Rattle.sentences.specs.Scanning.{Scan, end, stray, token, is_letter, lettered, longer, put, scan, scan_at}
+use Rattle.sentences.specs.Tokens.{sign, word, class_of, Run, Letters}
+use Rattle.sentences.specs.Scanning.{end, stray, token, is_letter, lettered, longer, put, scan, scan_at}
 
 no_letter : (c : Class) → (c ≡ class.Letter → ⊥) → is_letter c ≡ false
 no_letter class.Blank f = refl

@@ -1,5 +1,5 @@
 -- The table of refusals: each fault with its number and what it returns.
-use Rattle.std.specs.Prelude.{ℕ, Some, None, Option}
+use Rattle.std.specs.Prelude.{ℕ, Some, None}
 use Rattle.sentences.specs.declared.faults.SentenceFault.{SentenceFault}
 use Rattle.sentences.specs.declared.faults.SentenceFault.TheVariants.{TooLong, Stray, Unknown, Misfit}
 use Rattle.sentences.specs.declared.faults.ListFault.{ListFault}

@@ -1,5 +1,5 @@
 -- Names: how each is spelled, which fact a word names, and which lists of names are accepted.
-use Rattle.std.specs.Prelude.{ℕ, ◌≤◌, Bool, true, false, cond, not, ◌&&◌, ◌||◌, List, [], ◌∷◌, map, length, get_or, take, Some, None, Option, nat_le, slice_index, slice_index_or}
+use Rattle.std.specs.Prelude.{ℕ, ◌≤◌, Bool, true, false, not, ◌&&◌, ◌||◌, List, [], ◌∷◌, map, length, get_or, take, Some, None, Option, nat_le, slice_index, slice_index_or}
 use Rattle.std.specs.Str.{bytes_eq}
 use Rattle.sentences.specs.declared.name.Name.{Name}
 use Rattle.sentences.specs.Search.{first}

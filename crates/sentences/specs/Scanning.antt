@@ -1,5 +1,5 @@
 -- The tokens of a text by a function: each byte is put in front of what the bytes after it give.
-use Rattle.std.specs.Prelude.{◌≡◌, ℕ, ◌+◌, ◌<◌, ◌≤◌, Bool, true, false, cond, List, [], ◌∷◌, length, drop}
+use Rattle.std.specs.Prelude.{◌≡◌, ℕ, ◌+◌, ◌<◌, ◌≤◌, Bool, true, false, List, [], ◌∷◌, length, drop}
 use Rattle.sentences.specs.declared.tokens.Class.{Class}
 use Rattle.sentences.specs.declared.tokens.Class.TheVariants.{Blank, Letter, Sign, Other}
 use Rattle.sentences.specs.declared.tokens.Token.{Token}

@@ -1,5 +1,4 @@
-use Rattle.std.proofs.Common.{arith, rules}
-use Rattle.std.proofs.lemmas.Bool.Decides.{nat_tests}
+use Rattle.std.proofs.Common.{rules}
 use Rattle.sentences.specs.Names.{unfit}
 use Rattle.sentences.proofs.name.is_unfit.Goals as goal
 

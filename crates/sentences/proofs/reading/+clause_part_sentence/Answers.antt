@@ -1,8 +1,7 @@
-use Rattle.std.proofs.Common.{◌≡◌, sym, refl, ap, ◌∙◌, ⊎_elim, rules}
+use Rattle.std.proofs.Common.{sym, ap, ◌∙◌, ⊎_elim, rules}
 use mathlib.Core.Bool.{false≢true}
 use Rattle.std.proofs.lemmas.Result.{err_from_is_err_and}
 use Rattle.sentences.specs.declared.symbols.Symbol.TheVariants.{Sign}
-use Rattle.sentences.specs.declared.tokens.Sign.TheVariants.{And, Or, Close}
 use Rattle.sentences.specs.Naming.{words}
 use Rattle.sentences.specs.Machine.{on, want}
 use Rattle.sentences.proofs.Moves.{found, none_found, part_end, part-fact, part-not, part-not-fails, part-misfit, group-fails, group-then, group-end, group-misfit, group-closes, clause-fails, clause-more, sentence-fails, sentence-more}

@@ -1,4 +1,4 @@
-use Rattle.std.proofs.Common.{arith, rules}
+use Rattle.std.proofs.Common.{arith}
 use Rattle.std.proofs.lemmas.Bool.Decides.{nat_tests}
 use Rattle.sentences.specs.Cuts.{pairs_fault}
 use Rattle.sentences.proofs.cuts.CutList.fault.Goals as goal

@@ -1,4 +1,4 @@
-use Rattle.std.proofs.Common.{◌≡◌, ℕ, Bool, length, get_or, None, sym, refl, ap, ◌∙◌, subst, add-one, arith}
+use Rattle.std.proofs.Common.{◌≡◌, ℕ, length, get_or, None, sym, refl, ap, ◌∙◌, subst, add-one, arith}
 use Rattle.sentences.specs.Cuts.{no_cut, misplaced, bad_pair, front_end, first_bad_pair}
 use Rattle.sentences.specs.Search.{first}
 use Rattle.sentences.proofs.Searches.{first_none, first_more, first_found}
