@@ -1,6 +1,5 @@
-use Rattle.std.proofs.Common.{◌≡◌, Bool, not, ◌&&◌, ap, ◌∙◌, rules}
+use Rattle.std.proofs.Common.{◌≡◌, not, ◌&&◌, ap, ◌∙◌, rules}
 use Rattle.censors.specs.declared.table.Harm.{Harm}
-use Rattle.censors.specs.declared.question.Value.TheVariants.{Yes, No}
 use Rattle.censors.specs.Builtin.{good_jointly}
 use Rattle.censors.specs.Tables.{harm_of}
 use Rattle.censors.specs.Guarding.{spared}
