@@ -1,9 +1,9 @@
 -- The two start tests keep the first two laws, and so the three censors keep all six.
-use Rattle.std.specs.Prelude.{◌≡◌, ℕ, ◌<◌, Bool, true, false, not, ◌&&◌, List, length, slice_index_or, refl}
+use Rattle.std.specs.Prelude.{◌≡◌, Bool, true, false, not, ◌&&◌, List, slice_index_or, refl}
 use Rattle.std.proofs.Common.{ap, subst}
 use Rattle.std.proofs.lemmas.Bool.{not-true, not_from_true, and_left, and_right}
 use Rattle.sheets.specs.declared.SheetSet.{SheetSet}
-use Rattle.sheets.specs.Sets.{mem, any, within_one, within_union}
+use Rattle.sheets.specs.Sets.{mem, within_one, within_union}
 use Rattle.sheets.proofs.Laws.{any_false, within_not, within_one_fails, within_one_not, within_union_fails, within_union_not}
 use Rattle.censors.specs.declared.question.Question.{Question}
 use Rattle.censors.specs.declared.question.Value.{Value}

@@ -5,7 +5,7 @@ use Rattle.sheets.specs.Sets.{mem, any, set_of, SameMembers}
 use Rattle.censors.specs.declared.question.Decision.{Decision}
 use Rattle.censors.specs.declared.question.Question.{Question}
 use Rattle.censors.specs.declared.question.Reply.{Reply}
-use Rattle.censors.specs.declared.question.Reply.TheVariants.{Said, Mum}
+use Rattle.censors.specs.declared.question.Reply.TheVariants.{Said}
 use Rattle.censors.specs.declared.question.Value.{Value}
 use Rattle.censors.specs.Questions.{value_in, with_value}
 

@@ -7,3 +7,4 @@ pub mod Replay
 pub mod Guarding
 pub mod Parts
 pub mod TableRules
+pub mod Kept

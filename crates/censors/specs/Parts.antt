@@ -3,7 +3,7 @@ use Rattle.std.specs.Prelude.{◌≡◌, ℕ, ◌<◌, Bool, true, false, cond, 
 use Rattle.std.proofs.Common.{sym, ap₂, ◌∙◌}
 use Rattle.std.proofs.Math.Path.{ap}
 use Rattle.sheets.specs.declared.SheetSet.{SheetSet}
-use Rattle.sheets.specs.Sets.{mem, set_of, meet, minus}
+use Rattle.sheets.specs.Sets.{mem, meet, minus}
 use Rattle.sheets.proofs.Laws.{mem-set_of, set_of_ext}
 use Rattle.std.proofs.lemmas.Bool.{and_parts}
 use Rattle.censors.specs.declared.question.Question.{Question}

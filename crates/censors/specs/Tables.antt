@@ -1,5 +1,5 @@
 -- Decision tables: a reply for each row, which says whether yes and whether no would harm, and each value.
-use Rattle.std.specs.Prelude.{◌≡◌, ℕ, ◌+◌, Bool, true, false, cond, not, ◌&&◌, ◌||◌, List, [], ◌∷◌, slice_index_or}
+use Rattle.std.specs.Prelude.{◌≡◌, ℕ, ◌+◌, Bool, false, cond, not, List, [], ◌∷◌, slice_index_or}
 use Rattle.sheets.specs.declared.SheetSet.{SheetSet}
 use Rattle.censors.specs.declared.question.Decision.{Decision}
 use Rattle.censors.specs.declared.question.Question.{Question}
@@ -8,7 +8,7 @@ use Rattle.censors.specs.declared.question.Reply.TheVariants.{Said, Mum}
 use Rattle.censors.specs.declared.question.Value.{Value}
 use Rattle.censors.specs.declared.question.Value.TheVariants.{Yes, No}
 use Rattle.censors.specs.declared.table.Harm.{Harm}
-use Rattle.censors.specs.Questions.{same_value, with_value}
+use Rattle.censors.specs.Questions.{with_value}
 
 abbrev pub Table : Type 0
 Table = List (List Reply)

@@ -2,6 +2,7 @@
 ghost use Rattle.std.specs.Prelude.{◌≡◌, true, false, ◌&&◌};
 ghost use Rattle.censors.specs.Builtin.{good_singly, good_jointly};
 ghost use Rattle.censors.specs.Kinds.{good_of, table_of};
+ghost use Rattle.censors.specs.Kept.{chosen};
 ghost use Rattle.censors.specs.Tables.{harm_of, decided_by, entered as entered_of, refusing as refusing_table, speaking as speaking_table};
 ghost use Rattle.censors.specs.Guarding.{singly, jointly};
 ghost use Rattle.censors.specs.TableRules.{lawful, refusing_rules, speaking_rules};
@@ -194,6 +195,8 @@ impl Censor for Builtin {
     ghost decided = { λ k. decided_by (good_of k) (table_of k) };
 
     ghost after = { λ _ r _ q a. entered_of r q a };
+
+    ghost keeps = { chosen };
 
     fn is_good(&self, known: &SheetSet, secrets: &[SheetSet]) -> bool {
         match *self {

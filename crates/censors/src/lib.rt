@@ -1,4 +1,6 @@
 // Censors: what is replied to a question, so that no secret can be concluded.
+#![tactic(auto)]
+
 pub mod builtin;
 pub mod censor;
 pub mod question;

@@ -7,7 +7,7 @@ use Rattle.censors.proofs.replay.replay.Goals as goal
 pub loop-question-preserved : goal.loop-question-preserved
 loop-question-preserved g c =
     replay_more (g.C.Censor.decided c.args.censor.now) (g.C.Censor.after c.args.censor.now) c.args.secrets.now c.loop-question.left _ c.args.questions.now c.loop-question.question-index _ _ _ _ c.loop-question-test.true
-    c.value-in.ensures c.decide-decision.ensures c.record-after-left.ensures
+    c.value_in.ensures c.decide-decision.ensures c.record_after-left.ensures
     ∙ c.loop-question.invariant
 
 pub returns : goal.returns
