@@ -1,4 +1,6 @@
 // Holds what boxes do on many calls to what the rules say.
+#![tactic(auto)]
+
 use anyhow::anyhow;
 use tally::Tally;
 

@@ -9,7 +9,7 @@ use std::alloc::{AllocError, Global};
 use std::fmt;
 
 #[derive(PartialEq, Drop)]
-pub(crate) enum Answer {
+pub enum Answer {
     // the sheets in which a sentence is true, and the number of its tokens
     Meaning(Vec<u16>, usize),
     // in how many sheets a sentence is true
@@ -22,7 +22,7 @@ pub(crate) enum Answer {
 }
 
 impl Answer {
-    pub(crate) fn of_sentence(
+    pub fn of_sentence(
         heap: Global,
         read: Result<Meaning, SentenceFault>,
     ) -> Result<Answer, AllocError> {
@@ -34,7 +34,7 @@ impl Answer {
 }
 
 // A refusal of a sentence that stands alone.
-pub(crate) fn refused_at(number: u8, place: usize) -> Refusal
+pub fn refused_at(number: u8, place: usize) -> Refusal
     ensures number { result.number ≡ number }
     ensures item { result.item ≡ None }
     ensures place { result.returned ≡ Place place }

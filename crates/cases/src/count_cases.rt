@@ -55,7 +55,7 @@ const COUNT_CASES: &[CountCase] = &[
     },
 ];
 
-pub(crate) fn run(rt: &HostRuntime, tally: &mut Tally) -> anyhow::Result<()> {
+pub fn run(rt: &HostRuntime, tally: &mut Tally) -> anyhow::Result<()> {
     for case in COUNT_CASES {
         let names = names_of(rt.alloc(), case.names)?;
         let got = match parse(&names, case.text) {

@@ -199,7 +199,7 @@ const CUT_CASES: &[CutCase] = &[
     },
 ];
 
-pub(crate) fn run(rt: &HostRuntime, tally: &mut Tally, names: &Names) -> anyhow::Result<()> {
+pub fn run(rt: &HostRuntime, tally: &mut Tally, names: &Names) -> anyhow::Result<()> {
     for case in CUT_CASES {
         let list = CutList {
             block: case.block,

@@ -1,7 +1,6 @@
 // Lists of names, house rules and secrets, whose pieces follow one another.
-use super::lists::{Expected, pieces_of, read_list};
+use super::lists::{Expected, Pieces, read_list};
 use super::tally::Tally;
-use anyhow::anyhow;
 use sentences::faults::ListKind;
 use sentences::names::Names;
 
@@ -274,24 +273,11 @@ const LIST_CASES: &[ListCase] = &[
     },
 ];
 
-pub(crate) fn run(rt: &HostRuntime, tally: &mut Tally, names: &Names) -> anyhow::Result<()> {
+pub fn run(rt: &HostRuntime, tally: &mut Tally, names: &Names) -> anyhow::Result<()> {
     for case in LIST_CASES {
-        run_case(rt, tally, names, case)?;
+        let pieces = Pieces::of(rt.alloc(), case.pieces)?;
+        let got = read_list(case.kind, names, &pieces.list());
+        tally.compare(rt, case.what, &case.expected.answer(), &got)?;
     }
-    Ok(())
-}
-
-fn run_case(
-    rt: &HostRuntime,
-    tally: &mut Tally,
-    names: &Names,
-    case: &ListCase,
-) -> anyhow::Result<()> {
-    let pieces = pieces_of(rt.alloc(), case.pieces)?;
-    let Some(list) = pieces.list() else {
-        return Err(anyhow!("the pieces of a case are too long"));
-    };
-    let got = read_list(case.kind, names, &list);
-    tally.compare(rt, case.what, &case.expected.answer(), &got)?;
     Ok(())
 }

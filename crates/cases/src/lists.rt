@@ -1,37 +1,50 @@
 // Lists of pieces as the library takes them, and what it answers to them.
 use super::answers::Answer;
 use anyhow::anyhow;
-use pieces::Pieces;
-use sentences::cuts::CutList;
+use sentences::cuts::{Cut, CutList};
 use sentences::faults::{ListFault, ListKind, Refusal, Returned};
 use sentences::lists::SentenceList;
 use sentences::names::Names;
-use std::alloc::{AllocError, Global};
+use std::alloc::Global;
 
-// These texts, one after the other.
-pub(crate) fn pieces_of(heap: Global, texts: &[&str]) -> Result<Pieces, AllocError> {
-    let mut pieces = Pieces::new(heap);
-    for text in texts {
-        pieces.add(text.as_bytes())?;
-    }
-    Ok(pieces)
+// The pieces one after the other in a block, and a pair for each.
+#[derive(Drop)]
+pub struct Pieces {
+    block: Vec<u8>,
+    cuts: Vec<Cut>,
 }
 
-pub(crate) fn names_of(heap: Global, names: &[&str]) -> anyhow::Result<Names> {
-    let pieces = pieces_of(heap, names)?;
-    match read_names(&pieces) {
-        Some(names) => Ok(names),
-        None => Err(anyhow!("the names of a case are refused")),
+impl Pieces {
+    pub fn of(heap: Global, pieces: &[&str]) -> anyhow::Result<Pieces> {
+        let mut block = Vec::new(heap);
+        let mut cuts = Vec::new(heap);
+        for piece in pieces {
+            let offset = u16::try_from(block.len())?;
+            let len = u16::try_from(piece.len())?;
+            cuts.push(Cut { offset, len })?;
+            block.extend_from_slice(piece.as_bytes())?;
+        }
+        Ok(Pieces { block, cuts })
+    }
+
+    pub fn list(&self) -> CutList<'_> {
+        CutList {
+            block: self.block.as_slice(),
+            cuts: self.cuts.as_slice(),
+        }
     }
 }
 
-fn read_names(pieces: &Pieces) -> Option<Names> {
-    let list = pieces.list()?;
-    Names::parse(&list).ok()
+pub fn names_of(heap: Global, names: &[&str]) -> anyhow::Result<Names> {
+    let pieces = Pieces::of(heap, names)?;
+    match Names::parse(&pieces.list()) {
+        Ok(names) => Ok(names),
+        Err(_) => Err(anyhow!("the names of a case are refused")),
+    }
 }
 
 // The library's answer to the list as one of that kind.
-pub(crate) fn read_list(kind: ListKind, names: &Names, list: &CutList) -> Answer {
+pub fn read_list(kind: ListKind, names: &Names, list: &CutList) -> Answer {
     match kind {
         ListKind::Names => match Names::parse(list) {
             Ok(names) => Answer::Accepted(names.count()),
@@ -51,7 +64,7 @@ fn of_sentences(read: Result<SentenceList, ListFault>) -> Answer {
 
 // What is expected of a list.
 #[derive(Clone, Copy)]
-pub(crate) enum Expected {
+pub enum Expected {
     Accepted(usize),
     BadCount(ListKind),
     BadItem {
@@ -66,7 +79,7 @@ pub(crate) enum Expected {
 }
 
 impl Expected {
-    pub(crate) fn answer(self) -> Answer {
+    pub fn answer(self) -> Answer {
         match self {
             Expected::Accepted(count) => Answer::Accepted(count),
             Expected::BadCount(kind) => Answer::Refused(Refusal {

@@ -156,7 +156,7 @@ const REFUSED_CASES: &[RefusedCase] = &[
     },
 ];
 
-pub(crate) fn run(rt: &HostRuntime, tally: &mut Tally, names: &Names) -> anyhow::Result<()> {
+pub fn run(rt: &HostRuntime, tally: &mut Tally, names: &Names) -> anyhow::Result<()> {
     let heap = rt.alloc();
     for case in TRUE_CASES {
         let text = case.text.bytes(heap)?;

@@ -1,4 +1,6 @@
 // Holds the library's answers on many texts and lists to the answers that are expected.
+#![tactic(auto)]
+
 use anyhow::anyhow;
 use tally::Tally;
 

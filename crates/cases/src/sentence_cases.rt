@@ -281,7 +281,7 @@ const REFUSED_CASES: &[RefusedCase] = &[
     },
 ];
 
-pub(crate) fn run(rt: &HostRuntime, tally: &mut Tally, names: &Names) -> anyhow::Result<()> {
+pub fn run(rt: &HostRuntime, tally: &mut Tally, names: &Names) -> anyhow::Result<()> {
     for case in TRUE_CASES {
         let expected = Answer::Meaning(case.sheets.to_vec(rt.alloc())?, case.tokens);
         check_text(rt, tally, names, case.text, &expected)?;

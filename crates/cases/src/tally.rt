@@ -5,13 +5,13 @@ use super::answers::Answer;
 use std::io;
 
 #[derive(Clone, Copy)]
-pub(crate) struct Tally {
-    pub(crate) cases: usize,
-    pub(crate) wrong: usize,
+pub struct Tally {
+    pub cases: usize,
+    pub wrong: usize,
 }
 
 impl Tally {
-    pub(crate) fn new() -> Tally
+    pub fn new() -> Tally
         ensures cases { result.cases ≡ 0 }
         ensures wrong { result.wrong ≡ 0 }
     {
@@ -19,7 +19,7 @@ impl Tally {
     }
 
     // Prints the case and counts it.
-    pub(crate) fn compare(
+    pub fn compare(
         &mut self,
         rt: &HostRuntime,
         what: &str,

@@ -1,4 +1,6 @@
 // Runs the calls of a script on two boxes, one call a line, and prints what each answers.
+#![tactic(auto)]
+
 use std::io::Read;
 use std::{env, fs};
 

@@ -1,4 +1,5 @@
 // Fills a box as its arguments say and amends it, so that the instructions of a call can be counted: docs/COST.md.
+#![tactic(auto)]
 
 mod fill;
 mod plan;

@@ -1,4 +1,6 @@
 // A box with the slips that it has handed out: a program that takes calls from outside keeps them here until they are entered.
+#![tactic(auto)]
+
 ghost use Rattle.std.specs.Prelude.{◌≡◌, vec_len};
 ghost use Rattle.querybox.specs.States.{state_of};
 ghost use Rattle.desks.specs.Slots.{AllOut};

@@ -1,4 +1,6 @@
 // Texts put together piece by piece, as a box takes them: one block with a pair for each.
+#![tactic(auto)]
+
 ghost use Rattle.std.specs.Prelude.{◌≡◌, ◌+◌, ◌-◌, ◌^◌, ◌<◌, min, true, false, ◌⊎◌, [], ◌∷◌, ◌++◌, length, is_ok, IfOk, if◌then◌else◌, MatchOption, OnErr, OnOk};
 ghost use Rattle.pieces.specs.Pairs.{fits};
 

@@ -1,4 +1,6 @@
 // The query box.
+#![tactic(auto)]
+
 mod changes;
 mod entries;
 mod inner;

@@ -1,5 +1,7 @@
 // A censor written outside the library: it refuses as the refusing censor does, but guards the secrets together.
 // Everything that is proved for every censor holds of it, since it keeps the laws.
+#![tactic(auto)]
+
 ghost use Rattle.std.specs.Prelude.{◌≡◌};
 ghost use Rattle.censors.specs.Builtin.{good_jointly};
 ghost use Rattle.censors.specs.Tables.{decided_by, entry, entered as entered_of, refusing as refusing_table};

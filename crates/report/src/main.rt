@@ -1,5 +1,7 @@
 // Reads files of names and sentences, and prints what each sentence means or why it is refused,
 // and what each censor would reply.
+#![tactic(auto)]
+
 use line_report::report;
 use std::io::Read;
 use std::{env, fs};

@@ -1,4 +1,6 @@
 // A table of eight entries that lends one at a time.
+#![tactic(auto)]
+
 ghost use Rattle.std.specs.Prelude.{◌≡◌, ℕ, ◌<◌, ltb, is_some, IfSome, if◌then◌else◌, Some, None, nat_lt, slice_index_or};
 ghost use Rattle.std.specs.Borrow.{sem, follows, follows_if};
 ghost use Rattle.std.specs.Option.{ghost_name_of as name_of};

@@ -1,4 +1,6 @@
 // Worked examples: a table of texts over the names full, late and sold, and of runs of a box with these names, and what the rules make of each.
+#![tactic(auto)]
+
 ghost use Rattle.std.specs.Prelude.{◌≡◌};
 ghost use Rattle.sentences.specs.Naming.{words};
 ghost use Rattle.worked.specs.Worked.{names as the_names, rows as the_rows, row_at, text_at, expected_at, seen_at, bytes, AllHold};
