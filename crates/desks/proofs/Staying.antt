@@ -7,7 +7,7 @@ use Rattle.histories.specs.declared.data.BoxFault.{BoxFault}
 use Rattle.histories.specs.declared.data.BoxFault.TheVariants as fault
 use Rattle.histories.specs.declared.data.Change.{Change}
 use Rattle.histories.specs.declared.data.Pending.{Pending}
-use Rattle.histories.specs.Calls.{Text, House, Party, State, Slip, Enrol, Judge, Enter, Amend, Outcome, Refused, Enrolled, Judged, ReadOff, Replied, Unmatched, Amended, at, change, is_some, check, slip_out, enrolling, judging, matching, next_place, amending, asked, entered, judge_outcome, enter_outcome, outcome, after_enrol, after_judge, after_enter, after_amend, next}
+use Rattle.histories.specs.Calls.{Text, House, Party, State, Slip, Enrol, Judge, Enter, Amend, Outcome, Refused, Enrolled, Judged, Shown, Replied, Unmatched, Amended, at, change, is_some, check, slip_out, enrolling, judging, matching, next_place, amending, asked, entered, judge_outcome, enter_outcome, outcome, after_enrol, after_judge, after_enter, after_amend, next}
 use Rattle.histories.proofs.Lookups.{at-change_other, at-change, at_push, check-index-ok}
 use Rattle.desks.specs.Slots.{awaited}
 
@@ -81,7 +81,7 @@ module _ (h : House) (st : State) (c : ℕ) where
   Judging (Refused f) st' = st' ≡ st
   Judging (Enrolled n) st' = Unit
   Judging (Judged sl) st' = Handed sl st'
-  Judging (ReadOff sl) st' = Unit
+  Judging (Shown sl) st' = Unit
   Judging (Replied a) st' = Unit
   Judging (Unmatched sl) st' = Unit
   Judging (Amended ns) st' = Unit
@@ -123,7 +123,7 @@ module _ (h : House) (st : State) (sl : Slip) where
   Entering (Refused f) st' = ⊥
   Entering (Enrolled n) st' = ⊥
   Entering (Judged sl') st' = ⊥
-  Entering (ReadOff sl') st' = ⊥
+  Entering (Shown sl') st' = ⊥
   Entering (Replied a) st' = (sl.number ≡ h.number) × (awaited sl.place (at st.parties sl.party) ≡ true)
   Entering (Unmatched sl') st' = (sl' ≡ sl) × (st' ≡ st) × (sl.number ≡ h.number → awaited sl.place (at st.parties sl.party) ≡ true → ⊥)
   Entering (Amended ns) st' = ⊥

@@ -19,7 +19,7 @@ abbrev pub face_given : calls.Outcome → Option (Result SlipFace BoxFault)
 face_given (calls.Refused f) = Some (Err f)
 face_given (calls.Enrolled n) = None
 face_given (calls.Judged sl) = Some (Ok (face_of sl))
-face_given (calls.ReadOff sl) = None
+face_given (calls.Shown sl) = None
 face_given (calls.Replied a) = None
 face_given (calls.Unmatched sl) = None
 face_given (calls.Amended ns) = None
@@ -32,7 +32,7 @@ abbrev pub with_judged : List (Option Slip) → calls.Outcome → List (Option S
 with_judged xs (calls.Refused f) = xs
 with_judged xs (calls.Enrolled n) = xs
 with_judged xs (calls.Judged sl) = slice_set xs sl.party (Some (stored sl))
-with_judged xs (calls.ReadOff sl) = xs
+with_judged xs (calls.Shown sl) = xs
 with_judged xs (calls.Replied a) = xs
 with_judged xs (calls.Unmatched sl) = xs
 with_judged xs (calls.Amended ns) = xs
@@ -47,7 +47,7 @@ abbrev pub entry_given : calls.Outcome → Option (Result Reply BoxRefusal)
 entry_given (calls.Refused f) = None
 entry_given (calls.Enrolled n) = None
 entry_given (calls.Judged sl) = None
-entry_given (calls.ReadOff sl) = None
+entry_given (calls.Shown sl) = None
 entry_given (calls.Replied a) = Some (Ok a)
 entry_given (calls.Unmatched sl) = Some (Err (slip_refusal (face_of sl)))
 entry_given (calls.Amended ns) = None

@@ -5,17 +5,21 @@
 use Rattle.std.proofs.Common.{◌≡◌, ℕ, ◌<◌, Bool, true, false, List, [], ◌++◌, map, get_or, Some, None, Ok, sym, refl, ap, ◌∙◌, subst, arith, length-append}
 use Rattle.sheets.specs.declared.SheetSet.{SheetSet}
 use Rattle.sheets.specs.Sets.{mem}
+use Rattle.censors.specs.declared.question.Decision.{Decision}
+use Rattle.censors.specs.declared.question.Question.{Question}
+use Rattle.censors.specs.declared.question.Reply.{Reply}
+use Rattle.censors.specs.declared.question.Value.{Value}
 use Rattle.censors.specs.Laws.{Few, no_sheet, LeftOut, Laws}
 use Rattle.censors.specs.Replay.{Settles}
 use Rattle.censors.proofs.Replays.{hides}
-use Rattle.histories.specs.Calls.{House, State, Call, at, opening}
-use Rattle.histories.specs.Promise.{list_of, Another, Hidden, enrolments, entered_texts, asking, numbered, Fresh, Current, AllEnrolled}
+use Rattle.histories.specs.Calls.{House, Party, State, Call, at, opening, run}
+use Rattle.histories.specs.Promise.{list_of, Another, enrolments, entered_texts, asking, numbered, Fresh, Current, Promise, AllSecretsKept, AllUpToDate, AllEnrolled}
 use Rattle.histories.proofs.Lookups.{omap, On, at_map, each_front}
 use Rattle.histories.proofs.Bare.{Bare, as_question, Reads, bare_run, sheet_run, left_on, fill, full}
 use Rattle.histories.proofs.Filled.{run-full}
 use Rattle.histories.proofs.Proper.{Proper, opens-proper, proper-opens, lawful-proper, run-proper}
-use Rattle.histories.proofs.Sound.{Sound, past_of, entered_texts_are}
-use Rattle.histories.proofs.Joined.{behind, was-enrolled}
+use Rattle.histories.proofs.Sound.{Sound, behind, past_of, entered_texts_are}
+use Rattle.histories.proofs.Joined.{behind as behind_enrolment, was-enrolled}
 use Rattle.histories.proofs.Covers.{Covers}
 use Rattle.histories.proofs.Unseen.{other_calls, others-blank, other-sheets, shows_alike}
 use Rattle.histories.proofs.Fresh.{goes-append, with_texts, asking-goes, reset, enrolments-take}
@@ -24,6 +28,10 @@ use Rattle.histories.proofs.Order.{ordered}
 -- every record that is good for the secrets xs has a sheet outside x
 abbrev pub Escapes : House → List SheetSet → SheetSet → Type 0
 Escapes h xs x = Few xs → (r : SheetSet) → h.good r xs ≡ true → LeftOut r x
+
+-- no such set x is given away
+abbrev pub Unseen : House → State → List Call → Type 0
+Unseen h st calls = (c : ℕ) (p : Party) → at (run h st calls).parties c ≡ Some p → (x : SheetSet) → Escapes h p.secrets x → Another h st calls c p.start x
 
 module _ (h : House) (s : ℕ) (calls : List Call) (c : ℕ) where
   -- the stand-in of a sheet u is a sheet outside x that is left in the record if all of c's questions are put where u is the true sheet
@@ -68,11 +76,30 @@ module _ (h : House) (s : ℕ) (calls : List Call) (c : ℕ) where
       }
 
 module _ (h : House) (s : ℕ) (st : State) (e : opening h s ≡ Ok st) (calls : List Call) where
+  pub unseen : Laws h.good h.decided h.after → Unseen h st calls
+  unseen laws =
+      subst (λ (st : State). Unseen h st calls) (opens-proper h s st e).1
+      (λ c p there x. let a = behind h s calls c p there in
+      subst (λ (p : Party). Escapes h p.secrets x → Another h (full h s []) calls c p.start x) a.fills (another h s calls c laws a.bare a.is a.sound x))
+
+  pub current : Current h st calls
+  current =
+      let o = opens-proper h s st e in
+      subst (λ (st : State). Current h st calls) o.1
+      (λ c p there m. let a = behind h s calls c p there in
+      let u : ℕ = sheet_run h s [] calls in
+      let texts : entered_texts h c None (full h s []) calls ≡ a.bare.past = entered_texts_are h c s [] calls None tt ∙ ap past_of a.is in
+      rw (run-full h s [] calls, texts)
+      (subst (Fresh (numbered h m) u (enrolments h (full h s []) calls ++ asking m c 0 a.bare.past) c) a.fills
+      (fresh h s calls c m u (run-proper h s [] calls o.0) a.bare a.is a.sound)))
+
+  -- ---- the same of each counterparty that an enrolment made
+
   -- by the law `leaves` every good record has a sheet outside each secret
-  pub hidden : Laws h.good h.decided h.after → Hidden h st calls
-  hidden laws =
-      subst (λ (st : State). Hidden h st calls) (opens-proper h s st e).1
-      (λ i prior list c call. let a = behind h prior list s calls i c call in
+  pub secrets_kept : Laws h.good h.decided h.after → AllSecretsKept h st calls
+  secrets_kept laws =
+      subst (λ (st : State). AllSecretsKept h st calls) (opens-proper h s st e).1
+      (λ i prior list c call. let a = behind_enrolment h prior list s calls i c call in
       let xs : List SheetSet = a.bare.secrets in
       record {
         start = a.bare.start;
@@ -82,11 +109,11 @@ module _ (h : House) (s : ℕ) (st : State) (e : opening h s ≡ Ok st) (calls :
         another = λ k l. another h s calls c laws a.bare a.is a.sound (get_or xs k no_sheet) (λ few r g. laws.leaves r xs few g k l);
       })
 
-  pub current : Current h st calls
-  current =
+  pub up_to_date : AllUpToDate h st calls
+  up_to_date =
       let o = opens-proper h s st e in
-      subst (λ (st : State). Current h st calls) o.1
-      (λ i prior list c call. let a = behind h prior list s calls i c call in
+      subst (λ (st : State). AllUpToDate h st calls) o.1
+      (λ i prior list c call. let a = behind_enrolment h prior list s calls i c call in
       let u : ℕ = sheet_run h s [] calls in
       let texts : entered_texts h c None (full h s []) calls ≡ a.bare.past = entered_texts_are h c s [] calls None tt ∙ ap past_of a.is in
       record {
@@ -98,3 +125,12 @@ module _ (h : House) (s : ℕ) (st : State) (e : opening h s ≡ Ok st) (calls :
 
   pub all-enrolled : AllEnrolled h st calls
   all-enrolled = subst (λ (st : State). AllEnrolled h st calls) (opens-proper h s st e).1 (λ c p there. was-enrolled h c s calls p there)
+
+-- by the law `leaves` each secret is such a set
+pub promised : {good : SheetSet → List SheetSet → Bool} {decided : SheetSet → List SheetSet → Question → Value → Decision}
+    {after : SheetSet → List SheetSet → Question → Reply → SheetSet} → Laws good decided after → Promise good decided after
+promised {good} {decided} {after} laws number names rules s st e calls =
+    let h : House = record { good = good; decided = decided; after = after; number = number; names = names; rules = rules } in (
+      (λ c p there k l. unseen h s st e calls laws c p there (get_or p.secrets k no_sheet) (λ few r g. laws.leaves r p.secrets few g k l)),
+      current h s st e calls,
+    )

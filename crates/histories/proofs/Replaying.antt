@@ -8,7 +8,7 @@ use Rattle.censors.specs.declared.question.Reply.{Reply}
 use Rattle.censors.specs.declared.question.Value.{Value}
 use Rattle.censors.specs.Replay.{reply_to, record_after, replies, final}
 use Rattle.histories.specs.declared.data.Entry.{Entry}
-use Rattle.histories.specs.Calls.{House, evaluated, record_left}
+use Rattle.histories.specs.Calls.{House, evaluated, remaining}
 
 -- each question with its reply
 abbrev pub entries : List Question → List Reply → List Entry
@@ -40,7 +40,7 @@ module _ (decided : SheetSet → List SheetSet → Question → Value → Decisi
 
 -- a box judges all questions again as a replay does
 module _ (h : House) (xs : List SheetSet) where
-  pub record-left-is : (r : SheetSet) (qs : List Question) (s : ℕ) → record_left h r xs qs s ≡ final h.decided h.after xs r qs s
+  pub record-left-is : (r : SheetSet) (qs : List Question) (s : ℕ) → remaining h r xs qs s ≡ final h.decided h.after xs r qs s
   record-left-is r [] s = refl
   record-left-is r (q ∷ qs) s = record-left-is (record_after h.decided h.after xs r q s) qs s
 

@@ -2,11 +2,11 @@
 use Rattle.std.proofs.Common.{◌≡◌, ℕ, ◌≤◌, true, List, [], ◌∷◌, ◌++◌, length, Some, None, Option, sym, ap, ◌∙◌, subst, append_assoc, append-nil, arith}
 use Rattle.std.proofs.lemmas.List.{length_push}
 use Rattle.censors.specs.Laws.{Few, PartOf}
-use Rattle.histories.specs.Calls.{Text, House, State, Call, Outcome, at, lawful_sheets, outcome, next}
+use Rattle.histories.specs.Calls.{Text, House, Party, State, Call, Outcome, at, lawful_sheets, outcome, next, run}
 use Rattle.histories.specs.Promise.{Each, list_of, accepted, entered_now, entered_texts}
-use Rattle.histories.proofs.Lookups.{On, each_append, each_front}
-use Rattle.histories.proofs.Bare.{Bare, Reads, bare_next, bare_run, full, sheet_next}
-use Rattle.histories.proofs.Filled.{next-full}
+use Rattle.histories.proofs.Lookups.{On, omap_found, at_map, each_append, each_front}
+use Rattle.histories.proofs.Bare.{Bare, Reads, bare_next, bare_run, sheet_run, fill, full, sheet_next}
+use Rattle.histories.proofs.Filled.{run-full, next-full}
 use Rattle.histories.proofs.Moves.{Moved, stays, comes, asks, enters, moved}
 
 -- ---- each counterparty
@@ -46,6 +46,19 @@ module _ (h : House) where
   pub run_sound : (bs : List Bare) (xs : List Call) (c : ℕ) → On Sound (at bs c) → On Sound (at (bare_run h bs xs) c)
   run_sound bs [] c a = a
   run_sound bs (x ∷ xs) c a = run_sound (bare_next h bs x) xs c (move-sound (moved h bs c 0 x) a)
+
+  -- a counterparty of a box that was opened on the sheet s, by what it asked
+  pub record Behind (s : ℕ) (calls : List Call) (c : ℕ) (p : Party) : Type 0 where
+    pub bare : Bare
+    pub is : at (bare_run h [] calls) c ≡ Some bare
+    pub fills : fill h (sheet_run h s [] calls) bare ≡ p
+    pub sound : Sound bare
+
+  pub behind : (s : ℕ) (calls : List Call) (c : ℕ) (p : Party) → at (run h (full h s []) calls).parties c ≡ Some p → Behind s calls c p
+  behind s calls c p e =
+      let there = rw (run-full h s [] calls) at e in
+      let found = omap_found (fill h (sheet_run h s [] calls)) (at (bare_run h [] calls) c) (sym (at_map (fill h (sheet_run h s [] calls)) (bare_run h [] calls) c) ∙ there) in
+      record { bare = found.0; is = found.1; fills = found.2; sound = subst (On Sound) found.1 (run_sound [] calls c tt) }
 
 -- ---- the texts that the calls and their outcomes tell of
 

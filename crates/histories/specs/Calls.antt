@@ -70,7 +70,7 @@ pub data Outcome : Type 0 where
   Refused : BoxFault → Outcome
   Enrolled : ℕ → Outcome
   Judged : Slip → Outcome
-  ReadOff : Slip → Outcome
+  Shown : Slip → Outcome
   Replied : Reply → Outcome
   -- the slip does not match, and is handed back
   Unmatched : Slip → Outcome
@@ -223,9 +223,9 @@ module _ (h : House) where
       let a : Reply = (h.decided r xs q (value_in q s)).reply in
       record { question = q; reply = a } ∷ evaluated (h.after r xs q a) xs qs s
 
-  abbrev pub record_left : SheetSet → List SheetSet → List Question → ℕ → SheetSet
-  record_left r xs [] s = r
-  record_left r xs (q ∷ qs) s = record_left (h.after r xs q (h.decided r xs q (value_in q s)).reply) xs qs s
+  abbrev pub remaining : SheetSet → List SheetSet → List Question → ℕ → SheetSet
+  remaining r xs [] s = r
+  remaining r xs (q ∷ qs) s = remaining (h.after r xs q (h.decided r xs q (value_in q s)).reply) xs qs s
 
   abbrev pub questions : Party → List Question
   questions p = map (λ e. e.question) p.log
@@ -256,7 +256,7 @@ module _ (h : House) where
     start = p.start;
     secrets = p.secrets;
     log = evaluated p.start p.secrets (questions p) s;
-    known = record_left p.start p.secrets (questions p) s;
+    known = remaining p.start p.secrets (questions p) s;
     pending = p.pending;
   }
 
@@ -280,7 +280,7 @@ module _ (h : House) where
   abbrev pub outcome : State → Call → Outcome
   outcome st (Enrol prior list) = enrol_outcome (length st.parties) (enrolling (length st.parties) prior list)
   outcome st (Judge c t) = judge_outcome c (next_place (at st.parties c)) (judging c (at st.parties c) t)
-  outcome st (Read sl) = ReadOff sl
+  outcome st (Read sl) = Shown sl
   outcome st (Enter sl) = enter_outcome sl (matching sl (at st.parties sl.party))
   outcome st (Amend cs room) = amend_outcome st.parties (amending st cs room)
 
@@ -334,7 +334,7 @@ abbrev pub noted : Outcome → List Note
 noted (Refused f) = []
 noted (Enrolled c) = []
 noted (Judged sl) = []
-noted (ReadOff sl) = []
+noted (Shown sl) = []
 noted (Replied a) = []
 noted (Unmatched sl) = []
 noted (Amended ns) = ns

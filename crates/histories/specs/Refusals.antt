@@ -14,7 +14,7 @@ use Rattle.histories.specs.declared.refusals.BoxRefusal.{BoxRefusal}
 use Rattle.histories.specs.declared.refusals.BoxReturned.{BoxReturned}
 use Rattle.histories.specs.declared.refusals.BoxReturned.TheVariants as returned
 use Rattle.histories.specs.declared.refusals.SlipFace.{SlipFace}
-use Rattle.histories.specs.Calls.{Slip, Outcome, Refused, Enrolled, Judged, ReadOff, Replied, Unmatched, Amended}
+use Rattle.histories.specs.Calls.{Slip, Outcome, Refused, Enrolled, Judged, Shown, Replied, Unmatched, Amended}
 
 abbrev pub plain : ℕ → BoxReturned → BoxRefusal
 plain n r = record { number = n; about = None; item = None; returned = r }
@@ -61,7 +61,7 @@ abbrev pub refusal_of : Outcome → Option BoxRefusal
 refusal_of (Refused f) = Some (box_refusal f)
 refusal_of (Enrolled c) = None
 refusal_of (Judged sl) = None
-refusal_of (ReadOff sl) = None
+refusal_of (Shown sl) = None
 refusal_of (Replied a) = None
 refusal_of (Unmatched sl) = Some (slip_refusal (face_of sl))
 refusal_of (Amended ns) = None

@@ -2,4 +2,5 @@
 #![tactic(auto)]
 
 pub mod data;
+pub mod promise;
 pub mod refusals;

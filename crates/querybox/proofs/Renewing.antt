@@ -8,7 +8,7 @@ use Rattle.censors.specs.declared.question.Reply.{Reply}
 use Rattle.censors.specs.declared.question.Value.{Value}
 use Rattle.censors.specs.Questions.{value_in}
 use Rattle.histories.specs.declared.data.Entry.{Entry}
-use Rattle.histories.specs.Calls.{House, Party, change, questions, evaluated, record_left, renewed}
+use Rattle.histories.specs.Calls.{House, Party, change, questions, evaluated, remaining, renewed}
 use Rattle.querybox.specs.declared.inner.Inner.{Inner}
 use Rattle.querybox.specs.declared.party.Party.{Party as Stored}
 use Rattle.querybox.specs.Parties.{blank, blank_entry, party_of, secrets_of, replaced, restarted, rejudged, Fits}
@@ -22,7 +22,7 @@ judged_from h s i p = record {
   start = p.start;
   secrets = p.secrets;
   log = take i p.log ++ evaluated h p.known p.secrets (drop i (questions h p)) s;
-  known = record_left h p.known p.secrets (drop i (questions h p)) s;
+  known = remaining h p.known p.secrets (drop i (questions h p)) s;
   pending = p.pending;
 }
 

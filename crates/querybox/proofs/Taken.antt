@@ -11,7 +11,7 @@ use Rattle.censors.specs.declared.question.Question.{Question}
 use Rattle.censors.specs.declared.question.Reply.{Reply}
 use Rattle.censors.specs.declared.question.Value.{Value}
 use Rattle.histories.specs.declared.data.BoxFault.{BoxFault}
-use Rattle.histories.specs.Calls.{Text, House, Party, State, Slip, Call, Judge, Enter, Outcome, Refused, Enrolled, Judged, ReadOff, Replied, Unmatched, Amended, at, change, asked, judging, next_place, matching, judge_outcome, after_judge, enter_outcome, outcome, next}
+use Rattle.histories.specs.Calls.{Text, House, Party, State, Slip, Call, Judge, Enter, Outcome, Refused, Enrolled, Judged, Shown, Replied, Unmatched, Amended, at, change, asked, judging, next_place, matching, judge_outcome, after_judge, enter_outcome, outcome, next}
 use Rattle.querybox.specs.declared.query_box.QueryBox.{QueryBox}
 use Rattle.querybox.specs.States.{state_of, house_of, Step}
 use Rattle.histories.proofs.Lookups.{at-change}
@@ -21,7 +21,7 @@ abbrev pub Taken : House → State → Outcome → Type 0
 Taken h st (Refused f) = Unit
 Taken h st (Enrolled c) = Unit
 Taken h st (Judged sl) = (back : Slip) → outcome h st (Enter sl) ≡ Unmatched back → ⊥
-Taken h st (ReadOff sl) = Unit
+Taken h st (Shown sl) = Unit
 Taken h st (Replied a) = Unit
 Taken h st (Unmatched sl) = Unit
 Taken h st (Amended ns) = Unit

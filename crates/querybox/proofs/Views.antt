@@ -6,7 +6,7 @@ use Rattle.censors.specs.declared.question.Question.{Question}
 use Rattle.censors.specs.declared.question.Reply.{Reply}
 use Rattle.censors.specs.Questions.{value_in}
 use Rattle.histories.specs.declared.data.Entry.{Entry}
-use Rattle.histories.specs.Calls.{House, Party, at, change, questions, evaluated, record_left, renewed}
+use Rattle.histories.specs.Calls.{House, Party, at, change, questions, evaluated, remaining, renewed}
 use Rattle.querybox.specs.Parties.{plain_house}
 
 module _ {A B : Type 0} (g : A → B) where
@@ -55,7 +55,7 @@ module _ (h : House) where
       let a : Reply = (h.decided r xs q (value_in q s)).reply in
       ap (λ (es : List Entry). record { question = q; reply = a } ∷ es) (evaluated-plain (h.after r xs q a) xs qs s)
 
-  record-left-plain : (r : SheetSet) (xs : List SheetSet) (qs : List Question) (s : ℕ) → record_left h r xs qs s ≡ record_left plain r xs qs s
+  record-left-plain : (r : SheetSet) (xs : List SheetSet) (qs : List Question) (s : ℕ) → remaining h r xs qs s ≡ remaining plain r xs qs s
   record-left-plain r xs [] s = refl
   record-left-plain r xs (q ∷ qs) s = record-left-plain (h.after r xs q (h.decided r xs q (value_in q s)).reply) xs qs s
 

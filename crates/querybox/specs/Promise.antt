@@ -6,7 +6,7 @@ use Rattle.censors.specs.declared.question.Question.{Question}
 use Rattle.censors.specs.declared.question.Reply.{Reply}
 use Rattle.censors.specs.declared.question.Value.{Value}
 use Rattle.histories.specs.Calls.{Call, Outcome, run, outcomes}
-use Rattle.histories.specs.Promise.{Hidden, Current, AllEnrolled}
+use Rattle.histories.specs.Promise.{AllSecretsKept, AllUpToDate, AllEnrolled}
 use Rattle.querybox.specs.declared.query_box.QueryBox.{QueryBox}
 use Rattle.querybox.specs.States.{state_of, house_of, Step}
 
@@ -23,8 +23,8 @@ pub record Kept {C : Type 0} (good : C → SheetSet → List SheetSet → Bool) 
     (after : C → SheetSet → List SheetSet → Question → Reply → SheetSet) (b : QueryBox C) (calls : List Call) (answers : List Outcome) (b' : QueryBox C) : Type 0 where
   pub answered : answers ≡ outcomes (house_of good decided after b) (state_of b) calls
   pub holds : state_of b' ≡ run (house_of good decided after b) (state_of b) calls
-  pub hidden : Hidden (house_of good decided after b) (state_of b) calls
-  pub current : Current (house_of good decided after b) (state_of b) calls
+  pub hidden : AllSecretsKept (house_of good decided after b) (state_of b) calls
+  pub current : AllUpToDate (house_of good decided after b) (state_of b) calls
   pub enrolled : AllEnrolled (house_of good decided after b) (state_of b) calls
 
 -- The promise of the box b, from now on: over every history.

@@ -11,4 +11,4 @@ abbrev pub read_of : Slip → ReadSlip
 read_of s = record { slip = s; counterparty = s.counterparty; place = s.place }
 
 abbrev pub read_as : ReadSlip → calls.Outcome
-read_as r = calls.ReadOff (slip_of r.slip)
+read_as r = calls.Shown (slip_of r.slip)
