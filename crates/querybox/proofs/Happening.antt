@@ -7,7 +7,7 @@ use Rattle.censors.specs.declared.question.Reply.{Reply}
 use Rattle.censors.specs.declared.question.Value.{Value}
 use Rattle.censors.specs.Laws.{Laws}
 use Rattle.histories.specs.Calls.{House, Party, State, Call, Outcome, run, outcomes}
-use Rattle.histories.proofs.Promised.{hidden, current, all-enrolled}
+use Rattle.histories.proofs.Promised.{secrets_kept, up_to_date, all-enrolled}
 use Rattle.querybox.specs.declared.query_box.QueryBox.{QueryBox}
 use Rattle.sentences.specs.Lists.{sets_of}
 use Rattle.querybox.specs.Entries.{parties_of}
@@ -43,7 +43,7 @@ module _ {C : Type 0} (good : C → SheetSet → List SheetSet → Bool) (decide
       record {
         answered = does.0;
         holds = does.1;
-        hidden = hidden (house b) b.sheet (state_of b) opened calls laws;
-        current = current (house b) b.sheet (state_of b) opened calls;
+        hidden = secrets_kept (house b) b.sheet (state_of b) opened calls laws;
+        current = up_to_date (house b) b.sheet (state_of b) opened calls;
         enrolled = all-enrolled (house b) b.sheet (state_of b) opened calls;
       }
