@@ -1,8 +1,10 @@
-// Worked examples: a table of texts over the names full, late and sold, and of runs of a box with these names, and what the rules make of each.
+// Worked examples: a table of texts over the names full, late and sold, a table of runs of a box with these names, and what
+// the rules make of each.
 #![tactic(auto)]
 
 ghost use Rattle.std.specs.Prelude.{◌≡◌};
 ghost use Rattle.sentences.specs.Naming.{words};
+ghost use Rattle.worked.specs.RunTable.{run_rows as the_run_rows, RowsHold};
 ghost use Rattle.worked.specs.Worked.{names as the_names, rows as the_rows, row_at, text_at, expected_at, seen_at, bytes, AllHold};
 
 use sentences::cuts::{Cut, CutList};
@@ -28,7 +30,7 @@ pub fn names() -> Names
     }
 }
 
-// The text of a row. A row of runs has none.
+// The text of a row.
 pub fn text(row: usize) -> Option<&'static [u8]>
     ensures { bytes result ≡ text_at (row_at the_rows row) }
 {
@@ -42,10 +44,11 @@ pub fn text(row: usize) -> Option<&'static [u8]>
     }
 }
 
-// What is read of the text of a row, if it has one: what the table has there. Every row of the table, text or runs, follows from the rules.
+// What is read of the text of a row: what the table has there. Every row of the table, and of that of runs, follows from the rules.
 pub fn read_row(row: usize) -> Option<Result<Meaning, SentenceFault>>
     ensures as_listed { seen_at result ≡ expected_at (row_at the_rows row) }
     ensures by_rule { AllHold the_rows }
+    ensures runs_by_rule { RowsHold the_run_rows }
 {
     match text(row) {
         Some(bytes) => Some(parse(&names(), bytes)),
