@@ -13,8 +13,8 @@ loop-index-init c = (
   λ k l. ap (λ (cs : List Change). new_value cs k (bit c.args.sheet k)) (sym (drop_all (length c.args.changes.now) c.args.changes.now (le_refl _))),
 )
 
-pub with-value-amended-requires : goal.with-value-amended-requires
-with-value-amended-requires c =
+pub with_value-amended-requires : goal.with_value-amended-requires
+with_value-amended-requires c =
     let within : c.loop-index.index - 1 < length c.args.changes.now = omega arith in
     omega (arith, fact_below c.args.facts c.args.changes.now c.requires.proper (c.loop-index.index - 1) within, c.requires.few)
 
@@ -24,10 +24,10 @@ loop-index-preserved c =
     let i = c.loop-index.index - 1 in
     let within : i < length cs = omega arith in
     let later : c.loop-index.index ≡ i + 1 = omega arith in (
-      c.with-value-amended.type-inv,
+      c.with_value-amended.type_inv,
       λ k l.
           let old = bit c.args.sheet k in
-          c.with-value-amended.ensures k l
+          c.with_value-amended.ensures k l
           ∙ ap (λ (b : Bool). cond (eqb k (fact_at cs i)) (value_at cs i) b)
           (c.loop-index.invariant.1 k l ∙ ap (λ (n : ℕ). new_value (drop n cs) k old) later)
           ∙ sym (new_value_more cs i k old within),

@@ -4,7 +4,7 @@ use Rattle.sentences.proofs.Searches.{first_none, first_more, first_found}
 use Rattle.histories.specs.Calls.{listed_before, bad_change}
 use Rattle.querybox.proofs.ListedFacts.{fact_at}
 use Rattle.querybox.proofs.changes.first_bad_change.Goals as goal
-use Rattle.querybox.proofs.changes.first_bad_change.Goals.{then-fact-facts-via-then-fact-facts, then-fact-facts-via-else-fact-facts+then-is-listed-before}
+use Rattle.querybox.proofs.changes.first_bad_change.Goals.{then-fact-facts-via-then-fact-facts, then-fact-facts-via-else-fact-facts+then-is_listed_before}
 
 pub loop-index-init : goal.loop-index-init
 loop-index-init c = first_none _
@@ -18,8 +18,8 @@ returns-then-fact-facts c =
     elim c.then-fact-facts.branch [
       | then-fact-facts-via-then-fact-facts w ↦
           or_left (leb c.args.facts (fact_at cs i)) (listed_before (fact_at cs i) cs i) (le-leb c.args.facts (fact_at cs i) w.if-fact-facts.true)
-      | then-fact-facts-via-else-fact-facts+then-is-listed-before w ↦
-          or_right (leb c.args.facts (fact_at cs i)) (listed_before (fact_at cs i) cs i) (sym w.if-is-listed-before.ensures)
+      | then-fact-facts-via-else-fact-facts+then-is_listed_before w ↦
+          or_right (leb c.args.facts (fact_at cs i)) (listed_before (fact_at cs i) cs i) (sym w.if-is_listed_before.ensures)
     ] in
     sym (first_found (bad_change c.args.facts cs) (length cs) i c.loop-index.invariant bad c.loop-index-test.true)
 
@@ -29,4 +29,4 @@ loop-index-preserved c =
     let cs = c.args.changes.now in
     let i = c.loop-index.index in
     first_more (bad_change c.args.facts cs) i c.loop-index.invariant
-    (or_from (leb c.args.facts (fact_at cs i)) (listed_before (fact_at cs i) cs i) (lt-leb c.args.facts (fact_at cs i) c.if-fact-facts.false) (sym c.if-is-listed-before.ensures))
+    (or_from (leb c.args.facts (fact_at cs i)) (listed_before (fact_at cs i) cs i) (lt-leb c.args.facts (fact_at cs i) c.if-fact-facts.false) (sym c.if-is_listed_before.ensures))

@@ -4,6 +4,6 @@ use Rattle.querybox.proofs.party.padded.Goals as goal
 
 pub returns : goal.returns
 returns c = record {
-  front = take_at c.copy-from-slice.new.self _ (length c.args.sets.now) (ap length c.copy-from-slice.ensures.after) ∙ c.copy-from-slice.ensures.after;
-  all = simp (length-append, length-drop) (omega (arith, ap length c.copy-from-slice.ensures.after));
+  front = take_at c.copy_from_slice.new.self _ (length c.args.sets.now) (ap length c.copy_from_slice.ensures.after) ∙ c.copy_from_slice.ensures.after;
+  all = simp (length-append, length-drop) (omega (arith, ap length c.copy_from_slice.ensures.after));
 }

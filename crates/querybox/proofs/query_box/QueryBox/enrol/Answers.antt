@@ -27,24 +27,24 @@ returns-in-Err-secrets g c =
     let does = enrol-secrets (house g b) (state_of b) _ c.args.secrets.now (room b c.if-place-ge8.false) _ c.in-Ok.ensures _ c.in-Err-secrets.ensures in
     record { answers = does.answers; leaves = does.leaves; censor = refl; number = refl; names = refl; rules = refl; unmoved = refl }
 
-pub returns-then-not-is-good : goal.returns-then-not-is-good
-returns-then-not-is-good g c =
+pub returns-then-not-is_good : goal.returns-then-not-is_good
+returns-then-not-is_good g c =
     let b = c.args.self.now in
     let does = enrol-bad (house g b) (state_of b) _ c.args.secrets.now (room b c.if-place-ge8.false) _ c.in-Ok.ensures _ c.in-Ok-secrets.ensures
-    (c.if-not-is-good.ensures ∙ ap (g.C.Censor.good b.censor c.in-Ok.start) c.sets.ensures) in
+    (c.if-not-is_good.ensures ∙ ap (g.C.Censor.good b.censor c.in-Ok.start) c.sets.ensures) in
     record { answers = does.answers; leaves = does.leaves; censor = refl; number = refl; names = refl; rules = refl; unmoved = refl }
 
-pub invariant-of-self : goal.invariant-of-self
-invariant-of-self g c =
+pub invariant_of-self : goal.invariant_of-self
+invariant_of-self g c =
     let b = c.args.self.now in
     let s = subst Sound (sym c.add.ensures) (added-sound (sound_box b) c.if-place-ge8.false _ c.new.ensures.fits) in
-    (s.few, (s.eight, (all_fit s, (b.small, tt))))
+    record { few = s.few; eight = s.eight; fit = all_fit s; small = b.small }
 
 pub returns : goal.returns
 returns g c =
     let b = c.args.self.now in
     let does = enrol-done (house g b) (state_of b) _ c.args.secrets.now (room b c.if-place-ge8.false) _ c.in-Ok.ensures _ c.in-Ok-secrets.ensures
-    (c.if-not-is-good.ensures ∙ ap (g.C.Censor.good b.censor c.in-Ok.start) c.sets.ensures) in
+    (c.if-not-is_good.ensures ∙ ap (g.C.Censor.good b.censor c.in-Ok.start) c.sets.ensures) in
     let parties = ap parties_of c.add.ensures ∙ added-parties (sound_box b) c.if-place-ge8.false _ ∙ ap (λ p. parties_of b.inner ++ p ∷ []) (c.new.ensures.is (house g b)) in
     record {
       answers = ap Enrolled (sym (counted b)) ∙ does.answers;

@@ -15,16 +15,16 @@ use Rattle.querybox.proofs.query_box.QueryBox.enter.Goals as goal
 abbrev house : (g : given.Over) → QueryBox g.row.C.Denot → House
 house g b = house_of g.C.Censor.good g.C.Censor.decided g.C.Censor.after b
 
-pub invariant-of-self : goal.invariant-of-self
-invariant-of-self g c =
+pub invariant_of-self : goal.invariant_of-self
+invariant_of-self g c =
     let b = c.args.self.now in
     let e = c.in-Some-pending.pending in
     let here = c.in-Some.ensures.entry in
     let x : Party = entry_at b.inner c.spend.result blank in
     let out : x.pending ≡ Some e = cc in
-    let left : c.record-after-known.result ≡ (house g b).after x.known (secrets_of x) e.question e.decision.reply = cc in
+    let left : c.record_after-known.result ≡ (house g b).after x.known (secrets_of x) e.question e.decision.reply = cc in
     let s = moved-sound (c.append.ensures (house g b) e out left) (sound_box b) in
-    (s.few, (s.eight, (all_fit s, (b.small, tt))))
+    record { few = s.few; eight = s.eight; fit = all_fit s; small = b.small }
 
 pub returns : goal.returns
 returns g c =
@@ -33,7 +33,7 @@ returns g c =
     let here = c.in-Some.ensures.entry in
     let x : Party = entry_at b.inner c.spend.result blank in
     let out : x.pending ≡ Some e = cc in
-    let left : c.record-after-known.result ≡ (house g b).after x.known (secrets_of x) e.question e.decision.reply = cc in
+    let left : c.record_after-known.result ≡ (house g b).after x.known (secrets_of x) e.question e.decision.reply = cc in
     let parties = moved-parties (c.append.ensures (house g b) e out left) ∙ ap (change (entered (house g b) e) (parties_of b.inner)) c.spend.ensures in
     let does = enter_done (house g b) (state_of b) (slip_of c.args.slip) c.in-Some.party (sym c.in-Some.ensures.is) c.in-Some.ensures.fits c.if-slip-self.false c.if-slip-party.false e c.in-Some-pending.is in
     record {

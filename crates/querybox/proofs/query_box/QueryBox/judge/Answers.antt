@@ -17,21 +17,21 @@ keep-requires g c =
     let here = c.in-Some.ensures.entry in
     (holds_entry c.args.self.now _ here.0, subst (λ (x : Party). x.entered < 64) here.1 c.if-party-ge64.false)
 
-pub invariant-of-self : goal.invariant-of-self
-invariant-of-self g c =
+pub invariant_of-self : goal.invariant_of-self
+invariant_of-self g c =
     let b = c.args.self.now in
     let moved = c.keep.ensures (house g b) b.sheet
-    (decided_on (house g b) c.in-Some.party _ c.new-question.result b.sheet _ _ _ c.in-Some.ensures.entry.1 c.secret-sets.ensures c.value-in-value.ensures c.decide-decision.ensures) in
+    (decided_on (house g b) c.in-Some.party _ c.new-question.result b.sheet _ _ _ c.in-Some.ensures.entry.1 c.secret_sets.ensures c.value_in-value.ensures c.decide-decision.ensures) in
     let s = moved-sound moved (sound_box b) in
-    (s.few, (s.eight, (all_fit s, (b.small, tt))))
+    record { few = s.few; eight = s.eight; fit = all_fit s; small = b.small }
 
 pub returns : goal.returns
 returns g c =
     let b = c.args.self.now in
     let does = judged (house g b) (state_of b) c.args.counterparty c.args.text.now c.in-Some.party (sym c.in-Some.ensures.is) c.in-Some.ensures.fits
-    (sym c.is-some.ensures ∙ c.if-is-some.false) c.if-party-ge64.false _ c.in-Ok.ensures.is _ c.new-question.ensures in
+    (sym c.is_some.ensures ∙ c.if-is_some.false) c.if-party-ge64.false _ c.in-Ok.ensures.is _ c.new-question.ensures in
     let moved = c.keep.ensures (house g b) b.sheet
-    (decided_on (house g b) c.in-Some.party _ c.new-question.result b.sheet _ _ _ c.in-Some.ensures.entry.1 c.secret-sets.ensures c.value-in-value.ensures c.decide-decision.ensures) in
+    (decided_on (house g b) c.in-Some.party _ c.new-question.result b.sheet _ _ _ c.in-Some.ensures.entry.1 c.secret_sets.ensures c.value_in-value.ensures c.decide-decision.ensures) in
     record {
       answers = does.answers;
       leaves = ap (with_parties (house g b) (state_of b)) (moved-parties moved) ∙ does.leaves;

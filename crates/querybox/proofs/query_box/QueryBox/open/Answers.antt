@@ -21,22 +21,22 @@ returns-in-Err g c = record {
   promise = tt;
 }
 
-pub returns-in-Err-house-rules : goal.returns-in-Err-house-rules
-returns-in-Err-house-rules g c = record {
-  is = open-misruled _ _ _ _ _ _ _ _ c.in-Ok.ensures _ c.in-Err-house-rules.ensures;
+pub returns-in-Err-house_rules : goal.returns-in-Err-house_rules
+returns-in-Err-house_rules g c = record {
+  is = open-misruled _ _ _ _ _ _ _ _ c.in-Ok.ensures _ c.in-Err-house_rules.ensures;
   censor = tt;
   promise = tt;
 }
 
-pub overflow-cast-count : goal.overflow-cast-count
-overflow-cast-count g c = Fits-below tt (few_facts c.in-Ok.names _ c.count.ensures)
+pub overflow_cast-count : goal.overflow_cast-count
+overflow_cast-count g c = Fits-below tt (few_facts c.in-Ok.names _ c.count.ensures)
 
-pub overflow-shl-count : goal.overflow-shl-count
-overflow-shl-count g c = omega (arith, few_facts c.in-Ok.names _ c.count.ensures)
+pub overflow_shl-count : goal.overflow_shl-count
+overflow_shl-count g c = omega (arith, few_facts c.in-Ok.names _ c.count.ensures)
 
 pub returns-then-sheet-count : goal.returns-then-sheet-count
 returns-then-sheet-count g c = record {
-  is = open-past _ _ _ _ _ _ _ _ c.in-Ok.ensures _ c.in-Ok-house-rules.ensures
+  is = open-past _ _ _ _ _ _ _ _ c.in-Ok.ensures _ c.in-Ok-house_rules.ensures
       (subst (λ (k : ℕ). k ≤ c.args.sheet) (bound c.in-Ok.names _ c.count.ensures) c.if-sheet-count.true);
   censor = tt;
   promise = tt;
@@ -44,26 +44,25 @@ returns-then-sheet-count g c = record {
 
 pub returns-in-Some : goal.returns-in-Some
 returns-in-Some g c = record {
-  is = open-untrue _ _ _ _ _ _ _ _ c.in-Ok.ensures _ c.in-Ok-house-rules.ensures _
+  is = open-untrue _ _ _ _ _ _ _ _ c.in-Ok.ensures _ c.in-Ok-house_rules.ensures _
       (subst (λ (k : ℕ). c.args.sheet < k) (bound c.in-Ok.names _ c.count.ensures) c.if-sheet-count.false) c.in-Some.ensures;
   censor = tt;
   promise = tt;
 }
 
-pub invariant-of-result : goal.invariant-of-result
-invariant-of-result g c = (
-  omega arith,
-  (
-    ap (λ (t : Table Party). length t.items) c.new.ensures,
-    (λ k l. absurd (omega arith), (subst (λ (k : ℕ). c.args.sheet < k) (bound c.in-Ok.names _ c.count.ensures) c.if-sheet-count.false, tt)),
-  ),
-)
+pub invariant_of-result : goal.invariant_of-result
+invariant_of-result g c = record {
+  few = omega arith;
+  eight = ap (λ (t : Table Party). length t.items) c.new.ensures;
+  fit = λ k l. absurd (omega arith);
+  small = subst (λ (k : ℕ). c.args.sheet < k) (bound c.in-Ok.names _ c.count.ensures) c.if-sheet-count.false;
+}
 
 pub returns : goal.returns
 returns g c =
     let below = subst (λ (k : ℕ). c.args.sheet < k) (bound c.in-Ok.names _ c.count.ensures) c.if-sheet-count.false in
     record {
-      is = open-opened _ _ _ _ _ _ _ _ c.in-Ok.ensures _ c.in-Ok-house-rules.ensures below c.in-default.ensures;
+      is = open-opened _ _ _ _ _ _ _ _ c.in-Ok.ensures _ c.in-Ok-house_rules.ensures below c.in_default.ensures;
       censor = refl;
-      promise = promise-kept g.C.Censor.good g.C.Censor.decided g.C.Censor.after _ refl c.in-default.ensures (g.met.C.Censor.keeps c.args.censor);
+      promise = promise-kept g.C.Censor.good g.C.Censor.decided g.C.Censor.after _ refl c.in_default.ensures (g.met.C.Censor.keeps c.args.censor);
     }
