@@ -1,5 +1,5 @@
 -- A box: what it holds, what each call answers and leaves, and what a counterparty is shown.
-use Rattle.std.specs.Prelude.{◌≡◌, ℕ, zero, suc, ◌+◌, ◌^◌, Bool, true, false, cond, not, ◌&&◌, ◌||◌, List, [], ◌∷◌, ◌++◌, map, length, get_or, Some, None, Ok, Err, Option, Result, ◌==◌, nat_le, nat_lt, slice_index_or}
+use Rattle.std.specs.Prelude.{ℕ, zero, suc, ◌+◌, ◌^◌, Bool, true, false, cond, not, ◌&&◌, ◌||◌, List, [], ◌∷◌, ◌++◌, map, length, get_or, Some, None, Ok, Err, Option, Result, ◌==◌, nat_le, nat_lt, slice_index_or}
 use Rattle.sheets.specs.declared.SheetSet.{SheetSet}
 use Rattle.sheets.specs.Sets.{bit, mem, digits, set_of, meet}
 use Rattle.sentences.specs.declared.cuts.CutList.{CutList}
@@ -16,10 +16,8 @@ use Rattle.censors.specs.declared.question.Question.{Question}
 use Rattle.censors.specs.declared.question.Reply.{Reply}
 use Rattle.censors.specs.declared.question.Reply.TheVariants.{Said, Mum}
 use Rattle.censors.specs.declared.question.Value.{Value}
-use Rattle.censors.specs.declared.question.Value.TheVariants.{Yes, No}
 use Rattle.censors.specs.Laws.{no_sheet}
 use Rattle.censors.specs.Questions.{question_of, value_in, same_value}
-use Rattle.histories.specs.declared.data.AmendFault.{AmendFault}
 use Rattle.histories.specs.declared.data.AmendFault.TheVariants as amendment
 use Rattle.histories.specs.declared.data.BoxFault.{BoxFault}
 use Rattle.histories.specs.declared.data.BoxFault.TheVariants as fault

@@ -1,5 +1,5 @@
 -- What is promised of every history of a box: no secret is given away, and no reply is out of date.
-use Rattle.std.specs.Prelude.{◌≡◌, ℕ, ◌+◌, ◌<◌, Bool, true, false, cond, List, [], ◌∷◌, ◌++◌, map, length, Some, None, Ok, Err, Option, ◌==◌, slice_index_or}
+use Rattle.std.specs.Prelude.{◌≡◌, ℕ, ◌+◌, ◌<◌, Bool, true, false, cond, List, [], ◌∷◌, ◌++◌, map, length, Some, None, Ok, Option, ◌==◌, slice_index_or}
 use Rattle.sheets.specs.declared.SheetSet.{SheetSet}
 use Rattle.sheets.specs.Sets.{mem}
 use Rattle.sentences.specs.Names.{Word}
@@ -11,7 +11,7 @@ use Rattle.censors.specs.declared.question.Question.{Question}
 use Rattle.censors.specs.declared.question.Reply.{Reply}
 use Rattle.censors.specs.declared.question.Value.{Value}
 use Rattle.censors.specs.Laws.{no_sheet}
-use Rattle.histories.specs.Calls.{Text, House, Party, State, Slip, Call, Enrol, Judge, Read, Enter, Amend, Outcome, Refused, Enrolled, Judged, Shown, Replied, Unmatched, Amended, at, opening, start_from, outcome, next, run, outcomes, sheets_of, shows}
+use Rattle.histories.specs.Calls.{Text, House, Party, State, Call, Enrol, Judge, Read, Enter, Amend, Outcome, Refused, Enrolled, Judged, Shown, Replied, Unmatched, Amended, at, opening, start_from, outcome, next, run, outcomes, sheets_of, shows}
 
 -- P of each of the list
 abbrev pub Each : {A : Type 0} → (A → Type 0) → List A → Type 0

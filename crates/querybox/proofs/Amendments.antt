@@ -1,5 +1,5 @@
 -- What amending answers and leaves, once its first three checks are passed; the refusals of those need no lemma.
-use Rattle.std.proofs.Common.{◌≡◌, ℕ, ◌^◌, ◌<◌, ◌≤◌, Bool, ltb, List, map, length, take, Some, None, Ok, Err, Option, Result, sym, ap, ◌∙◌, ap₂}
+use Rattle.std.proofs.Common.{◌≡◌, ℕ, ◌^◌, ◌<◌, ◌≤◌, Bool, List, map, length, take, Some, None, Ok, Err, Option, Result, sym, ap, ◌∙◌, ap₂}
 use Rattle.std.proofs.lemmas.Bool.{le-ltb}
 use Rattle.sentences.specs.Search.{first}
 use Rattle.histories.specs.declared.data.AmendFault.TheVariants as amendment

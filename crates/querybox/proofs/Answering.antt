@@ -1,5 +1,5 @@
 -- What a call answers and leaves, by what its checks find.
-use Rattle.std.proofs.Common.{◌≡◌, ℕ, ◌+◌, ◌<◌, ◌≤◌, Bool, true, false, cond, leb, List, [], ◌∷◌, ◌++◌, map, length, Some, None, Ok, Err, Option, Result, sym, refl, ap, ◌∙◌, subst, ap₂}
+use Rattle.std.proofs.Common.{◌≡◌, ℕ, Bool, true, false, leb, length, Some, None, Ok, Err, Option, Result, sym, refl, ap, ◌∙◌, ap₂}
 use Rattle.sentences.specs.declared.faults.SentenceFault.{SentenceFault}
 use Rattle.sentences.specs.declared.reading.Meaning.{Meaning}
 use Rattle.sentences.specs.Machine.{reading}
@@ -7,8 +7,7 @@ use Rattle.censors.specs.declared.question.Question.{Question}
 use Rattle.censors.specs.Questions.{question_of}
 use Rattle.histories.specs.declared.data.BoxFault.{BoxFault}
 use Rattle.histories.specs.declared.data.BoxFault.TheVariants as fault
-use Rattle.histories.specs.declared.data.Pending.{Pending}
-use Rattle.histories.specs.Calls.{Text, House, Party, State, Slip, Call, Judge, Enter, Outcome, Refused, Judged, Replied, Unmatched, at, change, is_some, check, and_then, as_sentence, judging, next_place, asked, entered, matching, judge_outcome, after_judge, enter_outcome, after_enter, with_parties, outcome, next}
+use Rattle.histories.specs.Calls.{Text, House, Party, State, Call, Judge, Outcome, Refused, Judged, at, change, is_some, check, and_then, as_sentence, judging, next_place, asked, judge_outcome, after_judge, with_parties, outcome, next}
 
 -- a call that answers o and leaves st'
 pub record Does (h : House) (st : State) (x : Call) (o : Outcome) (st' : State) : Type 0 where

@@ -1,8 +1,8 @@
 -- A slip that matches, by the entry of its counterparty.
-use Rattle.std.proofs.Common.{◌≡◌, ℕ, Bool, cond, ◌&&◌, eqb, Some, None, Option, sym, refl, ap, ◌∙◌, ap₂}
+use Rattle.std.proofs.Common.{◌≡◌, Bool, cond, ◌&&◌, Some, None, sym, ap, ◌∙◌, ap₂}
 use Rattle.std.proofs.lemmas.Bool.{eq-eqb}
 use Rattle.histories.specs.declared.data.Pending.{Pending}
-use Rattle.histories.specs.Calls.{Party, House, State, Slip, Enter, Replied, at, change, entered, matching, enter_outcome, after_enter, with_parties}
+use Rattle.histories.specs.Calls.{House, State, Slip, Enter, Replied, at, change, entered, matching, enter_outcome, after_enter, with_parties}
 use Rattle.querybox.specs.declared.party.Party as kept
 use Rattle.querybox.specs.Parties.{party_of, Fits}
 use Rattle.querybox.proofs.Answering.{Does}

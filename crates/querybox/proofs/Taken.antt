@@ -1,5 +1,5 @@
 -- The slip that judge hands out is taken by the enter that follows.
-use Rattle.std.proofs.Common.{◌≡◌, ℕ, Bool, cond, ◌&&◌, eqb, List, length, Some, None, Ok, Err, Option, Result, sym, refl, ap, ◌∙◌, subst, ap₂, arith}
+use Rattle.std.proofs.Common.{◌≡◌, ℕ, Bool, cond, ◌&&◌, List, length, Some, None, Ok, Err, Option, Result, sym, refl, ap, ◌∙◌, subst, ap₂, arith}
 use Rattle.std.proofs.lemmas.Bool.{eq-eqb}
 use Rattle.sheets.specs.declared.SheetSet.{SheetSet}
 use Rattle.sentences.specs.declared.lists.SentenceList.{SentenceList}
@@ -11,7 +11,7 @@ use Rattle.censors.specs.declared.question.Question.{Question}
 use Rattle.censors.specs.declared.question.Reply.{Reply}
 use Rattle.censors.specs.declared.question.Value.{Value}
 use Rattle.histories.specs.declared.data.BoxFault.{BoxFault}
-use Rattle.histories.specs.Calls.{Text, House, Party, State, Slip, Call, Judge, Enter, Outcome, Refused, Enrolled, Judged, Shown, Replied, Unmatched, Amended, at, change, asked, judging, next_place, matching, judge_outcome, after_judge, enter_outcome, outcome, next}
+use Rattle.histories.specs.Calls.{Text, House, Party, State, Slip, Call, Judge, Enter, Outcome, Refused, Enrolled, Judged, Shown, Replied, Unmatched, Amended, at, asked, judging, next_place, matching, judge_outcome, after_judge, enter_outcome, outcome, next}
 use Rattle.querybox.specs.declared.query_box.QueryBox.{QueryBox}
 use Rattle.querybox.specs.States.{state_of, house_of, Step}
 use Rattle.histories.proofs.Lookups.{at-change}

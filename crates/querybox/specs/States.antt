@@ -1,5 +1,5 @@
 -- What a box holds, as the calls are defined over it.
-use Rattle.std.specs.Prelude.{◌≡◌, ℕ, Bool, List, Some, None, Ok, Err, Option, Result}
+use Rattle.std.specs.Prelude.{◌≡◌, Bool, List, Some, None, Ok, Err, Option, Result}
 use Rattle.sheets.specs.declared.SheetSet.{SheetSet}
 use Rattle.sentences.specs.Lists.{sets_of}
 use Rattle.sentences.specs.Naming.{words}

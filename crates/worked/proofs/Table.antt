@@ -1,6 +1,5 @@
 -- One computed test over the whole table, and what it says of each row.
-use Rattle.std.proofs.Common.{◌≡◌, ℕ, zero, suc, List, [], ◌∷◌, map, Some, None, Ok, Err, Result, sym, refl, ap, ◌∙◌, subst, arith}
-use Rattle.sheets.specs.declared.SheetSet.{SheetSet}
+use Rattle.std.proofs.Common.{◌≡◌, ℕ, zero, suc, List, [], ◌∷◌, map, Some, None, Ok, Err, Result, refl, ap, ◌∙◌, subst, arith}
 use Rattle.sheets.specs.Sets.{bit, mem, digits, set_of, meet, union, outside}
 use Rattle.sentences.specs.declared.faults.SentenceFault.{SentenceFault}
 use Rattle.sentences.specs.declared.reading.Meaning.{Meaning}
@@ -12,7 +11,7 @@ use Rattle.sentences.specs.Scanning.{scan, scan_at}
 use Rattle.sentences.specs.Search.{first}
 use Rattle.sentences.specs.Tokens.{class_of}
 use Rattle.sentences.proofs.Exact.{answered}
-use Rattle.worked.specs.Worked.{names, Row, true_in, refused, sheets, Holds, text, seen, expected, row_at, text_at, expected_at, AllHold, rows}
+use Rattle.worked.specs.Worked.{names, Row, true_in, refused, Holds, text, seen, expected, row_at, text_at, expected_at, AllHold, rows}
 
 -- the test: every row, read by the machine
 tested : map (λ r. seen (reading names (text r))) rows ≡ map expected rows

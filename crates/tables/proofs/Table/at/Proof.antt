@@ -1,15 +1,15 @@
 -- `at` hands out one element of the array, and the table follows it, for every T.
-use Rattle.std.proofs.Common.{◌≡◌, ℕ, zero, suc, ◌+◌, ◌-◌, ◌*◌, ◌^◌, ◌<◌, ◌≤◌, max, List, [], ◌∷◌, length, get_or, set, sym, refl, ap, ◌∙◌, subst, le_of_suc-le-suc, not-suc-le-zero, mul-le-mul_right, arith, length-set, w64}
+use Rattle.std.proofs.Common.{◌≡◌, ℕ, zero, suc, ◌+◌, ◌*◌, ◌^◌, ◌<◌, ◌≤◌, List, [], ◌∷◌, length, get_or, set, sym, refl, ap, ◌∙◌, subst, le_of_suc-le-suc, not-suc-le-zero, mul-le-mul_right, arith, length-set, w64}
 use seplogic.Ra.Ura.{Ura}
-use mir.Syntax.{Fn, Ty, Sym, a_type, named, ty_array}
+use mir.Syntax.{Fn, a_type, named, ty_array}
 use mir.Val.{Val, vint, vptr}
 use mir.MapTy.{inst_fn}
 use base.Fraction.{full_share}
 use base.Logic.{SProp, ent, sep, ex, wand, guard, via, fst∗, snd∗, all_e, apply∗}
 use base.Fml.{Lft, GName, Share, Fml, fsep, feq, ftrue, flft, fobs, fbor}
-use prog.Memory.{Memory, align, size, up, pad}
+use prog.Memory.{Memory, align, size}
 use prog.Routine.{Routine}
-use prog.Wp.{Env, Calls, Loops, WpFn, Tables}
+use prog.Wp.{Calls, Loops, WpFn, Tables}
 use types.Logic.{Logic, sem}
 use contract.Monad.{Fun, fact, fact_use}
 use contract.BorrowLft.{◌⊑◌}
@@ -23,7 +23,6 @@ use types.SemTy.{Body as Borrowed}
 use types.Mut.{open_ref}
 use denote.Exit.{yes, no}
 use denote.RattleType.{RattleType, owns}
-use denote.Laws.{Lawful}
 use denote.Memory.{part_at, mem, shares}
 use denote.Array.{Array}
 use denote.ArrayMemory.{Array-apart, Array-whole}
@@ -44,7 +43,7 @@ use denote.Triple.Clauses.{Clauses, closing}
 use denote.Triple.Entry.{on_entry}
 use denote.Triple.Spec.{Meets, triple_of}
 use denote.Triple.Table.{entered}
-use denote.Triple.Walked.{says, needs, Stays, stay_dropped, walk_of, ends_at, walked, walk_Meets, Goes-spent_ref, Goes-dropped}
+use denote.Triple.Walked.{says, Stays, stay_dropped, walk_of, ends_at, walked, walk_Meets, Goes-spent_ref, Goes-dropped}
 use borrow.Struct.Lend.{own_same}
 use Rattle.tables.specs.declared.Table.{Table}
 use Rattle.tables.specs.contracts.Table.{the_type, the_row}

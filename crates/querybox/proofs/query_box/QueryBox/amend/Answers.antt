@@ -1,4 +1,4 @@
-use Rattle.std.proofs.Common.{◌≡◌, ℕ, ◌^◌, ◌<◌, ◌≤◌, length, sym, refl, subst}
+use Rattle.std.proofs.Common.{ℕ, ◌^◌, ◌<◌, length, sym, refl, subst}
 use Rattle.sentences.specs.Naming.{words}
 use Rattle.histories.specs.Calls.{House}
 use Rattle.querybox.specs.declared.query_box.QueryBox.{QueryBox}

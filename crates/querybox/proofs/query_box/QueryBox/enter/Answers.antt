@@ -1,4 +1,4 @@
-use Rattle.std.proofs.Common.{◌≡◌, Some, sym, refl, ap, ◌∙◌, subst}
+use Rattle.std.proofs.Common.{◌≡◌, Some, sym, refl, ap, ◌∙◌}
 use Rattle.histories.specs.Calls.{House, change, entered, with_parties}
 use Rattle.querybox.specs.declared.party.Party.{Party}
 use Rattle.querybox.specs.Entries.{entry_at, parties_of}

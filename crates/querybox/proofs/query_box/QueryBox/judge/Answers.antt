@@ -1,4 +1,4 @@
-use Rattle.std.proofs.Common.{◌≡◌, ◌<◌, sym, refl, ap, ◌∙◌, subst}
+use Rattle.std.proofs.Common.{◌<◌, sym, refl, ap, ◌∙◌, subst}
 use Rattle.histories.specs.Calls.{House, with_parties}
 use Rattle.querybox.specs.declared.party.Party.{Party}
 use Rattle.querybox.specs.declared.query_box.QueryBox.{QueryBox}
