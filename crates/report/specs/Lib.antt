@@ -1,2 +1,3 @@
 pub mod Labels
+pub mod Pairs
 pub mod Passing

@@ -1,6 +1,6 @@
 // The end of a file's report: its lists, what the censors would do, and a summary.
 use super::file_report::{FileReport, Naming};
-use super::lists::{Unread, house_rules, secrets};
+use super::lists::Unread;
 use super::outlook::print_outlook;
 use super::start::{keeping, sheets_of};
 use sentences::lists::SentenceList;
@@ -27,12 +27,12 @@ fn report_lists(rt: &HostRuntime, so_far: &FileReport) -> io::Result<()> {
 // The lists as a box would take them.
 fn print_lists(rt: &HostRuntime, so_far: &FileReport, names: &Names) -> io::Result<()> {
     println!(rt; "lists:")?;
-    let rules = house_rules(&so_far.rules, names);
+    let rules = so_far.rules.house_rules(names);
     print_list(rt, "house rules", &rules)?;
     if let Ok(rules) = rules {
         print_keeping(rt, names, &rules)?;
     }
-    print_list(rt, "secrets", &secrets(&so_far.secrets, names))
+    print_list(rt, "secrets", &so_far.secrets.secrets(names))
 }
 
 fn print_keeping(rt: &HostRuntime, names: &Names, rules: &SentenceList) -> io::Result<()> {

@@ -3,11 +3,10 @@ ghost use Rattle.std.specs.Prelude.{◌≡◌, ◌+◌, ◌-◌, ◌^◌, min, f
 ghost use Rattle.censors.specs.Questions.{question_of};
 
 use super::input::Label;
-use super::lists::{Unread, house_rules, secrets};
+use super::lists::{Pieces, Unread};
 use super::outlook::{Asked, Opening, Unopened};
 use super::start::starting_record;
 use censors::question::Question;
-use pieces::Pieces;
 use sentences::names::Names;
 use sheets::SheetSet;
 use std::alloc::{AllocError, Global};
@@ -160,10 +159,10 @@ impl<'a> FileReport<'a> {
             Naming::Refused => return Err(Unopened::NamesRefused),
             Naming::Known(names) => names,
         };
-        let Ok(rules) = house_rules(&self.rules, &names) else {
+        let Ok(rules) = self.rules.house_rules(&names) else {
             return Err(Unopened::HouseRules);
         };
-        let Ok(secrets) = secrets(&self.secrets, &names) else {
+        let Ok(secrets) = self.secrets.secrets(&names) else {
             return Err(Unopened::Secrets);
         };
         let prior = match self.prior {

@@ -7,7 +7,7 @@ use std::alloc::{AllocError, Global};
 
 // What a sentence is for.
 #[derive(Clone, Copy)]
-pub(crate) enum Label {
+pub enum Label {
     Rule,
     Secret,
     // what the counterparty knows beforehand
@@ -16,7 +16,7 @@ pub(crate) enum Label {
 }
 
 impl Label {
-    pub(crate) fn name(self) -> &'static str
+    pub fn name(self) -> &'static str
         ensures { result.now ≡ label_name self }
     {
         match self {
@@ -53,7 +53,7 @@ impl Label {
 
 // A line, taken apart. What follows the label is without the blanks in front.
 #[derive(Drop)]
-pub(crate) enum Line<'a> {
+pub enum Line<'a> {
     // an empty line or a comment
     Nothing,
     Names(&'a [u8]),
@@ -61,7 +61,7 @@ pub(crate) enum Line<'a> {
     UnknownLabel(&'a [u8]),
 }
 
-pub(crate) fn read_line(line: &[u8]) -> Line<'_> {
+pub fn read_line(line: &[u8]) -> Line<'_> {
     if line.is_empty() || line[0] == b'#' {
         return Line::Nothing;
     }
@@ -73,7 +73,7 @@ pub(crate) fn read_line(line: &[u8]) -> Line<'_> {
 }
 
 fn line_of<'a>(label: &'a [u8], rest: &'a [u8]) -> Line<'a> {
-    if label == b"names" {
+    if label == b"names".as_slice() {
         return Line::Names(rest);
     }
     match Label::of(label) {
@@ -84,13 +84,13 @@ fn line_of<'a>(label: &'a [u8], rest: &'a [u8]) -> Line<'a> {
 
 // The pieces of a text between the places of one byte. What follows the last such place counts unless it is empty.
 #[derive(Drop)]
-pub(crate) struct Split<'a> {
+pub struct Split<'a> {
     rest: &'a [u8],
     at: u8,
 }
 
 impl<'a> Split<'a> {
-    pub(crate) fn new(text: &'a [u8], at: u8) -> Split<'a> {
+    pub fn new(text: &'a [u8], at: u8) -> Split<'a> {
         Split { rest: text, at }
     }
 }
@@ -116,7 +116,7 @@ impl<'a> Iterator for Split<'a> {
 }
 
 // The words of a text, which blanks part.
-pub(crate) fn words(heap: Global, text: &[u8]) -> Result<Vec<&[u8]>, AllocError> {
+pub fn words(heap: Global, text: &[u8]) -> Result<Vec<&[u8]>, AllocError> {
     let mut words = Vec::new(heap);
     for word in Split::new(text, b' ') {
         if !word.is_empty() {
@@ -127,7 +127,7 @@ pub(crate) fn words(heap: Global, text: &[u8]) -> Result<Vec<&[u8]>, AllocError>
 }
 
 // The line without a carriage return at its end.
-pub(crate) fn without_return(line: &[u8]) -> &[u8]
+pub fn without_return(line: &[u8]) -> &[u8]
     ensures front { result.now ≡ take (length result.now) line.now }
     ensures most { length line.now ≤ length result.now + 1 }
 {

@@ -2,18 +2,17 @@
 use super::end_report::report_end;
 use super::file_report::{FileReport, Naming};
 use super::input::{Label, Line, Split, read_line, without_return, words};
-use super::lists::{Unread, names as read_as_names};
+use super::lists::{Pieces, Unread};
 use super::refusals::ExplainedRefusal;
 use super::show::{Shown, print_caret, print_set};
 use super::start::sheets_of;
-use pieces::Pieces;
 use sentences::faults::SentenceFault;
 use sentences::names::Names;
 use sentences::reading::parse;
 use std::alloc::{AllocError, Global};
 use std::io;
 
-pub(crate) fn report(rt: &HostRuntime, name: &str, text: &[u8]) -> io::Result<()> {
+pub fn report(rt: &HostRuntime, name: &str, text: &[u8]) -> io::Result<()> {
     let name = Shown {
         text: name.as_bytes(),
     };
@@ -101,7 +100,7 @@ fn read_names(heap: Global, words: &[&[u8]]) -> Result<Result<Names, Unread>, Al
     for word in words {
         pieces.add(word)?;
     }
-    Ok(read_as_names(&pieces))
+    Ok(pieces.names())
 }
 
 fn print_names(rt: &HostRuntime, words: &[&[u8]]) -> io::Result<()> {

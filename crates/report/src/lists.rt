@@ -1,17 +1,27 @@
-// What pieces are read as.
-ghost use Rattle.std.specs.Prelude.{◌≡◌, ◌<◌, false, is_ok, MatchResult};
+// Cut lists that are put together piece by piece, and what they are read as.
+ghost use Rattle.std.specs.Prelude.{◌≡◌, ◌+◌, ◌-◌, ◌^◌, ◌<◌, min, true, false, ◌⊎◌, [], ◌∷◌, ◌++◌, length, is_ok, IfOk, if◌then◌else◌, vec_len, MatchResult, OnErr, OnOk};
+ghost use Rattle.report.specs.Pairs.{fits};
 
 use super::refusals::ExplainedRefusal;
-use pieces::Pieces;
-use sentences::cuts::CutList;
+use sentences::cuts::{Cut, CutList};
 use sentences::faults::ListFault;
 use sentences::lists::SentenceList;
 use sentences::names::Names;
+use std::alloc::{AllocError, Global};
 use std::fmt;
+
+// The pieces one after the other in a block, and a pair for each.
+#[derive(Drop)]
+pub struct Pieces {
+    block: Vec<u8>,
+    cuts: Vec<Cut>,
+    // how many pieces lie beyond what the 16 bits of a pair can say
+    left_out: usize,
+}
 
 // Why the pieces give no list.
 #[derive(Clone, Copy)]
-pub(crate) enum Unread {
+pub enum Unread {
     TooLarge,
     Refused(ListFault),
 }
@@ -34,29 +44,68 @@ impl fmt::Display for Unread {
     }
 }
 
-pub(crate) fn names(pieces: &Pieces) -> Result<Names, Unread>
-    ensures { 0 < pieces.now.left_out → is_ok result ≡ false }
-{
-    Ok(Names::parse(&list(pieces)?)?)
-}
+impl Pieces {
+    pub fn new(heap: Global) -> Pieces
+        ensures block { result.block.items ≡ [] }
+        ensures cuts { result.cuts.items ≡ [] }
+        ensures whole { result.left_out ≡ 0 }
+    {
+        Pieces {
+            block: Vec::new(heap),
+            cuts: Vec::new(heap),
+            left_out: 0,
+        }
+    }
 
-pub(crate) fn house_rules(pieces: &Pieces, names: &Names) -> Result<SentenceList, Unread>
-    ensures { 0 < pieces.now.left_out → is_ok result ≡ false }
-{
-    Ok(SentenceList::house_rules(names, &list(pieces)?)?)
-}
+    // Adds a piece and answers its index. Where memory runs out the list stays as it is, at most with bytes behind it in the block.
+    pub fn add(&mut self, piece: &[u8]) -> Result<usize, AllocError>
+        ensures index { IfOk result (λ i. i ≡ min (vec_len self.old.cuts + self.old.left_out) (2 ^ 64 - 1)) }
+        ensures block { OnOk result (self.new.block.items ≡ self.old.block.items ++ (if fits (length self.old.block.items) (length piece.now) then piece.now else [])) }
+        ensures cuts { OnOk result (self.new.cuts.items ≡ self.old.cuts.items ++ (if fits (length self.old.block.items) (length piece.now) then (record { offset = length self.old.block.items; len = length piece.now } ∷ []) else [])) }
+        ensures left { OnOk result (self.new.left_out ≡ (if fits (length self.old.block.items) (length piece.now) then self.old.left_out else min (self.old.left_out + 1) (2 ^ 64 - 1))) }
+        ensures failed_block { OnErr result ((self.new.block.items ≡ self.old.block.items) ⊎ (self.new.block.items ≡ self.old.block.items ++ piece.now)) }
+        ensures failed_cuts { OnErr result (self.new.cuts.items ≡ self.old.cuts.items) }
+        ensures failed_left { OnErr result (self.new.left_out ≡ self.old.left_out) }
+    {
+        let index = self.cuts.len().saturating_add(self.left_out);
+        let offset = u16::try_from(self.block.len());
+        let len = u16::try_from(piece.len());
+        if let (Ok(offset), Ok(len)) = (offset, len) {
+            self.block.extend_from_slice(piece)?;
+            self.cuts.push(Cut { offset, len })?;
+        } else {
+            self.left_out = self.left_out.saturating_add(1);
+        }
+        Ok(index)
+    }
 
-pub(crate) fn secrets(pieces: &Pieces, names: &Names) -> Result<SentenceList, Unread>
-    ensures { 0 < pieces.now.left_out → is_ok result ≡ false }
-{
-    Ok(SentenceList::secrets(names, &list(pieces)?)?)
-}
+    pub fn names(&self) -> Result<Names, Unread>
+        ensures { 0 < self.now.left_out → is_ok result ≡ false }
+    {
+        Ok(Names::parse(&self.list()?)?)
+    }
 
-fn list(pieces: &Pieces) -> Result<CutList<'_>, Unread>
-    ensures { MatchResult result (λ x. (pieces.now.left_out ≡ 0) × (x.block.now ≡ pieces.now.block.items) × (x.cuts.now ≡ pieces.now.cuts.items)) (λ _. 0 < pieces.now.left_out) }
-{
-    match pieces.list() {
-        Some(list) => Ok(list),
-        None => Err(Unread::TooLarge),
+    pub fn house_rules(&self, names: &Names) -> Result<SentenceList, Unread>
+        ensures { 0 < self.now.left_out → is_ok result ≡ false }
+    {
+        Ok(SentenceList::house_rules(names, &self.list()?)?)
+    }
+
+    pub fn secrets(&self, names: &Names) -> Result<SentenceList, Unread>
+        ensures { 0 < self.now.left_out → is_ok result ≡ false }
+    {
+        Ok(SentenceList::secrets(names, &self.list()?)?)
+    }
+
+    fn list(&self) -> Result<CutList<'_>, Unread>
+        ensures { MatchResult result (λ x. (self.now.left_out ≡ 0) × (x.block.now ≡ self.now.block.items) × (x.cuts.now ≡ self.now.cuts.items)) (λ _. 0 < self.now.left_out) }
+    {
+        if self.left_out > 0 {
+            return Err(Unread::TooLarge);
+        }
+        Ok(CutList {
+            block: self.block.as_slice(),
+            cuts: self.cuts.as_slice(),
+        })
     }
 }

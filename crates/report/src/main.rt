@@ -2,6 +2,7 @@
 // and what each censor would reply.
 #![tactic(auto)]
 
+use anyhow::anyhow;
 use line_report::report;
 use std::io::Read;
 use std::{env, fs};
@@ -47,9 +48,6 @@ fn report_file(rt: &HostRuntime, path: &str) -> anyhow::Result<()> {
 fn read_file(rt: &HostRuntime, path: &str) -> anyhow::Result<Vec<u8>> {
     match fs::read(rt, path) {
         Ok(bytes) => Ok(bytes),
-        Err(error) => {
-            let message = format!(in rt.alloc(); "{path}: {error}")?;
-            Err(message.as_str().into())
-        }
+        Err(error) => Err(anyhow!("{path}: {error}")),
     }
 }

@@ -2,6 +2,7 @@
 ghost use Rattle.std.specs.Prelude.{◌≡◌};
 ghost use Rattle.censors.specs.declared.question.Value.TheVariants.{Yes, No};
 ghost use Rattle.censors.specs.Kinds.{good_of, table_of};
+ghost use Rattle.censors.specs.Questions.{reply_word};
 ghost use Rattle.censors.specs.Tables.{decided_by, harm_of};
 
 use super::show::Shown;
@@ -15,14 +16,14 @@ use std::{fmt, io};
 
 // The record `known` that a counterparty starts from, and the secrets that are kept from it.
 #[derive(Clone, Copy)]
-pub(crate) struct Opening {
-    pub(crate) known: SheetSet,
-    pub(crate) secrets: SentenceList,
+pub struct Opening {
+    pub known: SheetSet,
+    pub secrets: SentenceList,
 }
 
 // Why there is no opening.
 #[derive(Clone, Copy)]
-pub(crate) enum Unopened {
+pub enum Unopened {
     NoNames,
     NamesRefused,
     HouseRules,
@@ -44,10 +45,10 @@ impl fmt::Display for Unopened {
 
 // A question that was accepted, with its number among all questions.
 #[derive(Clone, Copy)]
-pub(crate) struct Asked<'a> {
-    pub(crate) number: usize,
-    pub(crate) text: &'a [u8],
-    pub(crate) question: Question,
+pub struct Asked<'a> {
+    pub number: usize,
+    pub text: &'a [u8],
+    pub question: Question,
 }
 
 // What a censor would do with a question: which replies would harm, and what either value would bring.
@@ -75,8 +76,8 @@ impl Outlook {
 impl fmt::Display for Outlook {
     fn fmt<W: fmt::Write>(&self, f: &mut fmt::Formatter<W>) -> fmt::Result {
         let harmful = harmful_replies(self.harm);
-        let on_yes = self.on_yes.word();
-        let on_no = self.on_no.word();
+        let on_yes = reply_name(self.on_yes);
+        let on_no = reply_name(self.on_no);
         write!(
             f,
             "harmful {harmful}; yes brings {on_yes}, no brings {on_no}"
@@ -93,6 +94,12 @@ fn harmful_replies(harm: Harm) -> &'static str {
     }
 }
 
+fn reply_name(reply: Reply) -> &'static str
+    ensures { result.now ≡ reply_word reply }
+{
+    reply.word()
+}
+
 fn censor_name(censor: Builtin) -> &'static str {
     match censor {
         Builtin::Refusing => "refusing",
@@ -102,11 +109,7 @@ fn censor_name(censor: Builtin) -> &'static str {
 }
 
 // What all censors would do, each from the same record.
-pub(crate) fn print_outlook(
-    rt: &HostRuntime,
-    opening: &Opening,
-    questions: &[Asked],
-) -> io::Result<()> {
+pub fn print_outlook(rt: &HostRuntime, opening: &Opening, questions: &[Asked]) -> io::Result<()> {
     let sheets = opening.known.count();
     println!(rt; "censors, from a record of {sheets} sheets:")?;
     for censor in [Builtin::Refusing, Builtin::Lying, Builtin::Combined] {

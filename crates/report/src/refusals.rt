@@ -7,13 +7,13 @@ use std::fmt;
 
 // A refusal with its reason and with what it hands back.
 #[derive(Clone, Copy)]
-pub(crate) struct ExplainedRefusal {
+pub struct ExplainedRefusal {
     refusal: Refusal,
     reason: &'static str,
 }
 
 impl ExplainedRefusal {
-    pub(crate) fn of_sentence(fault: SentenceFault) -> ExplainedRefusal
+    pub fn of_sentence(fault: SentenceFault) -> ExplainedRefusal
         ensures { result.refusal ≡ sentence_refusal fault }
     {
         ExplainedRefusal {
@@ -22,7 +22,7 @@ impl ExplainedRefusal {
         }
     }
 
-    pub(crate) fn of_list(fault: ListFault) -> ExplainedRefusal
+    pub fn of_list(fault: ListFault) -> ExplainedRefusal
         ensures { result.refusal ≡ list_refusal fault }
     {
         ExplainedRefusal {

@@ -16,8 +16,8 @@ const ROW: usize = 16;
 // A text of which each byte takes one column: a byte that is no printable ASCII stands as '?'.
 // Only what fits a sentence is shown.
 #[derive(Clone, Copy)]
-pub(crate) struct Shown<'a> {
-    pub(crate) text: &'a [u8],
+pub struct Shown<'a> {
+    pub text: &'a [u8],
 }
 
 impl fmt::Display for Shown<'_> {
@@ -41,7 +41,7 @@ fn printable(byte: u8) -> char
 }
 
 // The text, and a caret below the place. A place past the end is just after the text.
-pub(crate) fn print_caret(rt: &HostRuntime, text: &[u8], place: usize) -> io::Result<()> {
+pub fn print_caret(rt: &HostRuntime, text: &[u8], place: usize) -> io::Result<()> {
     let shown = Shown { text };
     let width = caret_width(place);
     println!(rt; "    {shown}")?;
@@ -84,7 +84,7 @@ impl fmt::Display for Row<'_> {
 }
 
 // In how many of a box's sheets a sentence is true, and in which.
-pub(crate) fn print_set(rt: &HostRuntime, set: &SheetSet, all: u16) -> io::Result<()> {
+pub fn print_set(rt: &HostRuntime, set: &SheetSet, all: u16) -> io::Result<()> {
     let count = set.count();
     print!(rt; "  true in {count} of {all} sheets")?;
     let sheets = members(rt.alloc(), set)?;

@@ -10,14 +10,14 @@ use sentences::names::Names;
 use sheets::SheetSet;
 
 // The sheets of a box with these names.
-pub(crate) fn sheets_of(names: &Names) -> SheetSet
+pub fn sheets_of(names: &Names) -> SheetSet
     ensures { result ≡ set_of (λ s. nat_lt s (2 ^ length (words_of names.now))) }
 {
     SheetSet::below(names.count())
 }
 
 // The sheets that keep every house rule.
-pub(crate) fn keeping(names: &Names, rules: &SentenceList) -> SheetSet
+pub fn keeping(names: &Names, rules: &SentenceList) -> SheetSet
     ensures { result ≡ fold meet_of (set_of (λ s. nat_lt s (2 ^ length (words_of names.now)))) (sets_of rules.now) }
 {
     let mut kept = sheets_of(names);
@@ -28,11 +28,7 @@ pub(crate) fn keeping(names: &Names, rules: &SentenceList) -> SheetSet
 }
 
 // The sheets that keep every house rule, and the prior where there is one.
-pub(crate) fn starting_record(
-    names: &Names,
-    rules: &SentenceList,
-    prior: Option<SheetSet>,
-) -> SheetSet
+pub fn starting_record(names: &Names, rules: &SentenceList, prior: Option<SheetSet>) -> SheetSet
     ensures { result ≡ fold meet_of (set_of (λ s. nat_lt s (2 ^ length (words_of names.now)))) (sets_of rules.now ++ option_to_list prior) }
 {
     let kept = keeping(names, rules);
