@@ -1,16 +1,15 @@
 #!/bin/sh
 # Plants each misuse of misuse/*.edit in a copy of the repository, and demands that the compiler refuses it with the
 # error that it names, and with no error of another kind.
-# What is proved already is taken over from target/. RT names the command to check with (default: rt).
+# What is proved already is taken over from the folders out/. RT names the command to check with (default: rt).
 set -eu
 root=$(cd "$(dirname "$0")/.." && pwd)
 rt=${RT:-rt}
 work=$(mktemp -d)
 trap 'rm -rf "$work"' EXIT
 cp -R "$root/crates" "$root/crates.txt" "$work"
-[ ! -d "$root/target" ] || cp -R "$root/target" "$work"
 
-check() { (cd "$work" && "$rt" check "$1" >"$work/log" 2>&1); }
+check() { (cd "$work/crates/$1" && "$rt" check >"$work/log" 2>&1); }
 
 # The copy is proved as it stands, so that each refusal is the edit's.
 for crate in $(sed -n 's/^crate: //p' "$root"/misuse/*.edit | sort -u); do

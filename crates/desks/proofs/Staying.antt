@@ -1,5 +1,5 @@
 -- What each call does to the slips that are out.
-use Rattle.std.proofs.Common.{◌≡◌, ℕ, zero, suc, ◌+◌, ◌<◌, Bool, true, false, cond, ◌&&◌, eqb, ◌⊎◌, List, [], ◌∷◌, length, Some, None, Ok, Err, Option, Result, sym, refl, ap, ◌∙◌, ⊎_elim, arith}
+use Rattle.std.proofs.Common.{◌≡◌, ℕ, zero, suc, ◌+◌, ◌<◌, Bool, true, false, cond, ◌&&◌, eqb, List, [], ◌∷◌, length, Some, None, Ok, Err, Option, Result, sym, refl, ap, ◌∙◌, ⊎_elim, arith}
 use Rattle.std.proofs.lemmas.Bool.{both_ways, eq-eqb, eqb-true, and_from, and_parts}
 use Rattle.sentences.specs.declared.cuts.CutList.{CutList}
 use Rattle.censors.specs.declared.question.Question.{Question}
@@ -7,7 +7,7 @@ use Rattle.histories.specs.declared.data.BoxFault.{BoxFault}
 use Rattle.histories.specs.declared.data.BoxFault.TheVariants as fault
 use Rattle.histories.specs.declared.data.Change.{Change}
 use Rattle.histories.specs.declared.data.Pending.{Pending}
-use Rattle.histories.specs.Calls.{Text, House, Party, State, Slip, Enrol, Judge, Enter, Amend, Outcome, Refused, Enrolled, Judged, Shown, Replied, Unmatched, Amended, at, change, is_some, check, slip_out, enrolling, judging, matching, next_place, amending, asked, entered, judge_outcome, enter_outcome, outcome, after_enrol, after_judge, after_enter, after_amend, next}
+use Rattle.histories.specs.Calls.{Text, House, Party, State, Slip, Enrol, Judge, Enter, Amend, Outcome, Refused, Enrolled, Judged, Shown, Replied, Unmatched, Amended, at, is_some, check, slip_out, enrolling, judging, matching, next_place, amending, asked, entered, judge_outcome, enter_outcome, outcome, after_enrol, after_judge, after_enter, after_amend, next}
 use Rattle.histories.proofs.Lookups.{at-change_other, at-change, at_push, check-index-ok}
 use Rattle.desks.specs.Slots.{awaited}
 

@@ -10,14 +10,14 @@ use Rattle.desks.proofs.Desk.close.Goals as goal
 abbrev house : (g : given.Over) → QueryBox g.row.C.Denot → House
 house g b = house_of g.C.Censor.good g.C.Censor.decided g.C.Censor.after b
 
-pub enter-kept-requires : goal.enter-kept-requires
-enter-kept-requires g c =
-    let b = c.loop-kept.query-box in
+pub enter_kept-requires : goal.enter_kept-requires
+enter_kept-requires g c =
+    let b = c.loop-kept.query_box in
     last_awaited b.number (state_of b).parties c.pop.new.self.items c.in-Some.kept (same_out refl refl (sym c.in-Some.ensures.items) c.loop-kept.invariant)
 
 pub loop-kept-preserved : goal.loop-kept-preserved
 loop-kept-preserved g c =
-    let b = c.loop-kept.query-box in
-    let does = c.enter-kept.ensures in
+    let b = c.loop-kept.query_box in
+    let does = c.enter_kept.ensures in
     same_out does.house.1 (ap (λ (st : State). st.parties) does.leaves) refl
     (last_entered (house g b) (state_of b) c.pop.new.self.items c.in-Some.kept (same_out refl refl (sym c.in-Some.ensures.items) c.loop-kept.invariant))

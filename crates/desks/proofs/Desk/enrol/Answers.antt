@@ -11,15 +11,13 @@ use Rattle.desks.proofs.Desk.enrol.Goals as goal
 abbrev house : (g : given.Over) → QueryBox g.row.C.Denot → House
 house g b = house_of g.C.Censor.good g.C.Censor.decided g.C.Censor.after b
 
-pub invariant-of-self : goal.invariant-of-self
-invariant-of-self g c =
+pub invariant_of-self : goal.invariant_of-self
+invariant_of-self g c =
     let d = c.args.self.now in
     let b = d.query_box in
-    let does = c.enrol.ensures in (
-      d.eight,
-      (
-        same_out does.number (ap (λ (st : State). st.parties) does.leaves) refl
-            (all_stay b.number (state_of b) (next (house g b) (state_of b) (Enrol (prior_text c.args.prior) c.args.secrets.now)) d.slips.items d.out (enrol-stays (house g b) (state_of b) (prior_text c.args.prior) c.args.secrets.now)),
-        tt,
-      ),
-    )
+    let does = c.enrol.ensures in
+    record {
+      eight = d.eight;
+      out = same_out does.number (ap (λ (st : State). st.parties) does.leaves) refl
+          (all_stay b.number (state_of b) (next (house g b) (state_of b) (Enrol (prior_text c.args.prior) c.args.secrets.now)) d.slips.items d.out (enrol-stays (house g b) (state_of b) (prior_text c.args.prior) c.args.secrets.now));
+    }

@@ -11,30 +11,28 @@ use Rattle.desks.proofs.Desk.enter.Goals as goal
 abbrev house : (g : given.Over) → QueryBox g.row.C.Denot → House
 house g b = house_of g.C.Censor.good g.C.Censor.decided g.C.Censor.after b
 
-pub invariant-of-self : goal.invariant-of-self
-invariant-of-self g c =
+pub invariant_of-self : goal.invariant_of-self
+invariant_of-self g c =
     let d = c.args.self.now in
     let b = d.query_box in
-    let took = c.take-slip.ensures in
-    (took.len ∙ d.eight, (same_out refl refl took.items (one_taken b.number (state_of b) d.slips.items d.out c.args.counterparty), tt))
+    let took = c.take_slip.ensures in
+    record { eight = took.len ∙ d.eight; out = same_out refl refl took.items (one_taken b.number (state_of b) d.slips.items d.out c.args.counterparty) }
 
-pub invariant-of-self-2 : goal.invariant-of-self-2
-invariant-of-self-2 g c =
+pub invariant_of-self-2 : goal.invariant_of-self-2
+invariant_of-self-2 g c =
     let d = c.args.self.now in
     let b = d.query_box in
-    let took = c.take-slip.ensures in
-    let does = c.enter.ensures in (
-      took.len ∙ d.eight,
-      (
-        same_out does.number (ap (λ (st : State). st.parties) does.leaves) took.items
-            (entered-kept (house g b) (state_of b) d.slips.items d.out c.args.counterparty c.in-ok-slip.slip (sym took.value ∙ c.in-ok-slip.was)),
-        tt,
-      ),
-    )
+    let took = c.take_slip.ensures in
+    let does = c.enter.ensures in
+    record {
+      eight = took.len ∙ d.eight;
+      out = same_out does.number (ap (λ (st : State). st.parties) does.leaves) took.items
+          (entered-kept (house g b) (state_of b) d.slips.items d.out c.args.counterparty c.in_ok-slip.slip (sym took.value ∙ c.in_ok-slip.was));
+    }
 
 pub unreachable-requires : goal.unreachable-requires
 unreachable-requires g c =
     let d = c.args.self.now in
     let b = d.query_box in
-    never_back (house g b) (state_of b) d.slips.items d.out c.args.counterparty c.in-ok-slip.slip (sym c.take-slip.ensures.value ∙ c.in-ok-slip.was)
-    (slip_of c.in-Err.-slip) c.in-Err.ensures.answers
+    never_back (house g b) (state_of b) d.slips.items d.out c.args.counterparty c.in_ok-slip.slip (sym c.take_slip.ensures.value ∙ c.in_ok-slip.was)
+    (slip_of c.in-Err._slip) c.in-Err.ensures.answers

@@ -19,8 +19,8 @@ house g b = house_of g.C.Censor.good g.C.Censor.decided g.C.Censor.after b
 abbrev given_face : ℕ → ℕ → Option (Result SlipFace BoxFault)
 given_face k i = Some (Ok (record { counterparty = k; place = i }))
 
-pub put-slip-requires : goal.put-slip-requires
-put-slip-requires g c =
+pub put_slip-requires : goal.put_slip-requires
+put_slip-requires g c =
     let d = c.args.self.now in
     let b = d.query_box in
     let p = c.args.counterparty in
@@ -34,8 +34,8 @@ put-slip-requires g c =
       empty = ap (slip_at d.slips.items) same ∙ judged-empty (house g b) (state_of b) d.slips.items d.out p c.args.text.now s e;
     }
 
-pub invariant-of-self-2 : goal.invariant-of-self-2
-invariant-of-self-2 g c =
+pub invariant_of-self-2 : goal.invariant_of-self-2
+invariant_of-self-2 g c =
     let d = c.args.self.now in
     let b = d.query_box in
     let p = c.args.counterparty in
@@ -44,14 +44,12 @@ invariant-of-self-2 g c =
     let hand = handed (house g b) (state_of b) d.slips.items d.out p c.args.text.now s does.answers in
     let same = read_party c.read-party.ensures.is ∙ hand.party in
     let slip = read_slip c.read-party.ensures.is in
-    let items = c.put-slip.ensures.items ∙ ap₂ (λ (k : ℕ) (x : Slip). set d.slips.items k (Some x)) same slip in (
-      c.put-slip.ensures.len ∙ d.eight,
-      (
-        same_out does.number (ap (λ (st : State). st.parties) does.leaves) items
-            (judged-kept (house g b) (state_of b) d.slips.items d.out p c.args.text.now s does.answers),
-        tt,
-      ),
-    )
+    let items = c.put_slip.ensures.items ∙ ap₂ (λ (k : ℕ) (x : Slip). set d.slips.items k (Some x)) same slip in
+    record {
+      eight = c.put_slip.ensures.len ∙ d.eight;
+      out = same_out does.number (ap (λ (st : State). st.parties) does.leaves) items
+          (judged-kept (house g b) (state_of b) d.slips.items d.out p c.args.text.now s does.answers);
+    }
 
 pub returns : goal.returns
 returns g c =
@@ -64,7 +62,7 @@ returns g c =
       answers = ap₂ given_face (read_party c.read-party.ensures.is) (read_place c.read-party.ensures.is) ∙ ap face_given does.answers;
       leaves = does.leaves;
       house = (does.censor, does.number, does.names, does.rules);
-      slips = c.put-slip.ensures.items
+      slips = c.put_slip.ensures.items
           ∙ ap₂ (λ (k : ℕ) (x : Slip). set d.slips.items k (Some x)) (read_party c.read-party.ensures.is) slip
           ∙ ap (with_judged d.slips.items) does.answers;
     }

@@ -10,7 +10,7 @@ returns-in-None c =
     let p = c.args.counterparty in
     record {
       from = took.items;
-      from-len = took.len;
+      from_len = took.len;
       to = sym (none_there xs p c.requires.empty) ∙ ap (λ (v : Option Slip). set xs p v) took.value;
       to_len = refl;
     }
