@@ -1,4 +1,6 @@
 // Putting a question: it is judged, its slip read and entered at once.
+ghost use Rattle.client.specs.Asking.{Asked};
+
 use censors::censor::Censor;
 use censors::question::Reply;
 use histories::data::BoxFault;
@@ -14,11 +16,13 @@ pub(crate) struct Replied {
 
 // The slip is entered in the box that handed it out, with nothing in between: the proof says that it is not handed back.
 pub(crate) fn ask<C: Censor>(
-    desk: &mut QueryBox<C>,
+    query_box: &mut QueryBox<C>,
     counterparty: usize,
     text: &[u8],
-) -> Result<Replied, BoxFault> {
-    let slip = match desk.judge(counterparty, text) {
+) -> Result<Replied, BoxFault>
+    ensures { Asked C.Censor.good C.Censor.decided C.Censor.after query_box.old counterparty text.now result query_box.new }
+{
+    let slip = match query_box.judge(counterparty, text) {
         Ok(slip) => slip,
         Err(fault) => return Err(fault),
     };
@@ -27,7 +31,7 @@ pub(crate) fn ask<C: Censor>(
         counterparty: _,
         place,
     } = slip.read();
-    match desk.enter(slip) {
+    match query_box.enter(slip) {
         Ok(reply) => Ok(Replied { place, reply }),
         Err(_slip) => unreachable(),
     }

@@ -21,15 +21,15 @@ pub(crate) fn run(rt: &HostRuntime) -> anyhow::Result<()> {
         let names = list_of(&names)?;
         let rules = list_of(&rules)?;
         let secrets = list_of(&secrets)?;
-        let Ok(desk) = QueryBox::open(censor, 7, &names, &rules, 3) else {
+        let Ok(query_box) = QueryBox::open(censor, 7, &names, &rules, 3) else {
             return Err(anyhow!("the box is not opened"));
         };
-        let mut desk = desk;
-        let Ok(counterparty) = desk.enrol(None, &secrets) else {
+        let mut query_box = query_box;
+        let Ok(counterparty) = query_box.enrol(None, &secrets) else {
             return Err(anyhow!("the counterparty is not enrolled"));
         };
-        put_all(rt, &mut desk, counterparty)?;
-        amend_full(rt, &mut desk, counterparty)?;
+        put_all(rt, &mut query_box, counterparty)?;
+        amend_full(rt, &mut query_box, counterparty)?;
     }
     Ok(())
 }
@@ -51,12 +51,12 @@ fn list_of(pieces: &Pieces) -> anyhow::Result<CutList<'_>> {
 
 fn put_all(
     rt: &HostRuntime,
-    desk: &mut QueryBox<Builtin>,
+    query_box: &mut QueryBox<Builtin>,
     counterparty: usize,
 ) -> anyhow::Result<()> {
     println!(rt; "counterparty {counterparty}:")?;
     for text in ["full", "late", "sold", "full", "late & ", "ship"] {
-        match ask(desk, counterparty, text.as_bytes()) {
+        match ask(query_box, counterparty, text.as_bytes()) {
             Ok(replied) => {
                 let place = replied.place;
                 let reply = replied.reply.word();
@@ -65,13 +65,13 @@ fn put_all(
             Err(_fault) => println!(rt; "  {text}: refused")?,
         }
     }
-    print_left(rt, desk, counterparty)
+    print_left(rt, query_box, counterparty)
 }
 
 // Full becomes untrue.
 fn amend_full(
     rt: &HostRuntime,
-    desk: &mut QueryBox<Builtin>,
+    query_box: &mut QueryBox<Builtin>,
     counterparty: usize,
 ) -> anyhow::Result<()> {
     let mut notes = [Note {
@@ -83,7 +83,7 @@ fn amend_full(
         fact: 0,
         value: false,
     };
-    let Ok(count) = desk.amend(&[change], &mut notes) else {
+    let Ok(count) = query_box.amend(&[change], &mut notes) else {
         return Err(anyhow!("the amendment is turned down"));
     };
     println!(rt; "  notes: {count}")?;
@@ -92,18 +92,18 @@ fn amend_full(
         let reply = note.reply.word();
         println!(rt; "    {place}: {reply}")?;
     }
-    print_left(rt, desk, counterparty)
+    print_left(rt, query_box, counterparty)
 }
 
 fn print_left(
     rt: &HostRuntime,
-    desk: &QueryBox<Builtin>,
+    query_box: &QueryBox<Builtin>,
     counterparty: usize,
 ) -> anyhow::Result<()> {
-    if let Ok(sheets) = desk.remaining(counterparty) {
+    if let Ok(sheets) = query_box.remaining(counterparty) {
         println!(rt; "  sheets left: {sheets}")?;
     }
-    if let Ok(Some(reply)) = desk.held(counterparty, 0) {
+    if let Ok(Some(reply)) = query_box.held(counterparty, 0) {
         let reply = reply.word();
         println!(rt; "  held at 0: {reply}")?;
     }

@@ -1,12 +1,19 @@
 -- The slips that are kept, as judging and entering move them.
-use Rattle.std.proofs.Common.{◌≡◌, ℕ, List, [], ◌∷◌, ◌++◌, length, set, Some, None, Option, sym, ap, ◌∙◌, subst}
+use Rattle.std.proofs.Common.{◌≡◌, ℕ, Bool, List, [], ◌∷◌, ◌++◌, length, set, Some, None, Option, sym, refl, ap, ◌∙◌, subst}
+use Rattle.sheets.specs.declared.SheetSet.{SheetSet}
+use Rattle.censors.specs.declared.question.Decision.{Decision}
+use Rattle.censors.specs.declared.question.Question.{Question}
 use Rattle.censors.specs.declared.question.Reply.{Reply}
+use Rattle.censors.specs.declared.question.Value.{Value}
 use Rattle.histories.specs.Calls as calls
 use Rattle.histories.specs.Calls.{Text, House, State, Judge, Enter, Outcome, Judged, Replied, Unmatched, at, outcome, next}
+use Rattle.querybox.specs.declared.query_box.QueryBox.{QueryBox}
 use Rattle.querybox.specs.declared.slip.ReadSlip.{ReadSlip}
 use Rattle.querybox.specs.declared.slip.Slip.{Slip}
 use Rattle.querybox.specs.Slips.{slip_of, read_of}
-use Rattle.desks.specs.Answers.{stored, state_after}
+use Rattle.querybox.specs.States.{state_of, house_of, Step}
+use Rattle.querybox.proofs.Taken.{as-answered}
+use Rattle.desks.specs.Answers.{stored, Entered}
 use Rattle.desks.specs.Slots.{slip_at, without, awaited, AllOut}
 use Rattle.desks.proofs.Kept.{Out, out_of, none_kept, one-put, last_gone}
 use Rattle.desks.proofs.Places.{never_some, at_last}
@@ -14,6 +21,27 @@ use Rattle.desks.proofs.Staying.{Stays, Handed, Judging, Entering, judge-stays, 
 
 pub same_slip : (a b : Slip) → slip_of a ≡ slip_of b → a ≡ b
 same_slip a b e = ap stored e
+
+-- what entering a slip leaves, if there is one
+abbrev pub state_after : House → State → Option Slip → State
+state_after h st None = st
+state_after h st (Some s) = next h st (Enter (slip_of s))
+
+module _ {C : Type 0} (good : C → SheetSet → List SheetSet → Bool) (decided : C → SheetSet → List SheetSet → Question → Value → Decision)
+    (after : C → SheetSet → List SheetSet → Question → Reply → SheetSet) where
+  pub entered-number : (v : Option Slip) (b b' : QueryBox C) → Entered good decided after b v b' → b'.number ≡ b.number
+  entered-number None b b' same = ap (λ (x : QueryBox C). x.number) same
+  entered-number (Some s) b b' step = step.number
+
+  pub entered-state : (v : Option Slip) (b b' : QueryBox C) → Entered good decided after b v b' → state_of b' ≡ state_after (house_of good decided after b) (state_of b) v
+  entered-state None b b' same = ap state_of same
+  entered-state (Some s) b b' step = step.leaves
+
+  pub entered-none : {v : Option Slip} (b : QueryBox C) → v ≡ None → Entered good decided after b v b
+  entered-none b none = subst (λ (v : Option Slip). Entered good decided after b v b) (sym none) refl
+
+  pub entered-some : {v : Option Slip} {s : Slip} {b b' : QueryBox C} {o : Outcome} → v ≡ Some s → Step good decided after b (Enter (slip_of s)) o b' → Entered good decided after b v b'
+  entered-some {b = b} {b' = b'} some step = subst (λ (v : Option Slip). Entered good decided after b v b') (sym some) (as-answered good decided after step)
 
 -- what was read on a slip
 pub read_slip : {r : ReadSlip} {s : Slip} → r ≡ read_of s → r.slip ≡ s

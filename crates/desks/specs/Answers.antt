@@ -1,6 +1,10 @@
 -- What a desk answers and keeps, by what its box answers.
 use Rattle.std.specs.Prelude.{◌≡◌, Bool, true, false, List, Some, None, Ok, Err, Option, Result, slice_set}
+use Rattle.sheets.specs.declared.SheetSet.{SheetSet}
+use Rattle.censors.specs.declared.question.Decision.{Decision}
+use Rattle.censors.specs.declared.question.Question.{Question}
 use Rattle.censors.specs.declared.question.Reply.{Reply}
+use Rattle.censors.specs.declared.question.Value.{Value}
 use Rattle.histories.specs.declared.data.BoxFault.{BoxFault}
 use Rattle.histories.specs.declared.refusals.BoxRefusal.{BoxRefusal}
 use Rattle.histories.specs.declared.refusals.SlipFace.{SlipFace}
@@ -9,10 +13,7 @@ use Rattle.histories.specs.Refusals.{face_of, slip_refusal}
 use Rattle.querybox.specs.declared.query_box.QueryBox.{QueryBox}
 use Rattle.querybox.specs.declared.slip.Slip.{Slip}
 use Rattle.querybox.specs.Slips.{slip_of}
-
--- the box has the censor, the number, the names and the house rules that it had
-abbrev pub SameHouse : {C : Type 0} → QueryBox C → QueryBox C → Type 0
-SameHouse old new = (new.censor ≡ old.censor) × (new.number ≡ old.number) × (new.names ≡ old.names) × (new.rules ≡ old.rules)
+use Rattle.querybox.specs.States.{state_of, house_of, Step}
 
 -- what is told of a judgement
 abbrev pub face_given : calls.Outcome → Option (Result SlipFace BoxFault)
@@ -69,6 +70,8 @@ module _ (h : calls.House) (st : calls.State) where
   entry_of None = None
   entry_of (Some s) = entry_given (calls.outcome h st (calls.Enter (slip_of s)))
 
-  abbrev pub state_after : Option Slip → calls.State
-  state_after None = st
-  state_after (Some s) = calls.next h st (calls.Enter (slip_of s))
+-- The slip, if there is one, was entered in the box b, which is then b'.
+abbrev pub Entered : {C : Type 0} → (C → SheetSet → List SheetSet → Bool) → (C → SheetSet → List SheetSet → Question → Value → Decision)
+    → (C → SheetSet → List SheetSet → Question → Reply → SheetSet) → QueryBox C → Option Slip → QueryBox C → Type 0
+Entered good decided after b None b' = b' ≡ b
+Entered good decided after b (Some s) b' = Step good decided after b (calls.Enter (slip_of s)) (calls.outcome (house_of good decided after b) (state_of b) (calls.Enter (slip_of s))) b'

@@ -1,11 +1,11 @@
 // The calls that put no slip in.
 ghost use Rattle.std.specs.Prelude.{◌≡◌, length, drop, Some};
-ghost use Rattle.histories.specs.Calls.{Enrol, Judge, Amend, noted, outcome as outcome_of, next as next_of};
+ghost use Rattle.histories.specs.Calls.{Enrol, Judge, Amend, noted, outcome as outcome_of};
 ghost use Rattle.querybox.specs.Amending.{amended_as, written};
 ghost use Rattle.querybox.specs.Enrolling.{prior_text, enrolled_as};
 ghost use Rattle.querybox.specs.Looking.{held_in, remaining_in};
 ghost use Rattle.querybox.specs.States.{state_of, house_of, Step};
-ghost use Rattle.desks.specs.Answers.{SameHouse, face_given, with_judged, face_kept};
+ghost use Rattle.desks.specs.Answers.{face_given, with_judged, face_kept};
 ghost use Rattle.desks.specs.Slots.{slip_at};
 
 use super::Desk;
@@ -28,8 +28,7 @@ impl<C: Censor> Desk<C> {
     // The slip is kept, and what is written on it is given.
     pub fn judge(&mut self, counterparty: usize, text: &[u8]) -> Result<SlipFace, BoxFault>
         ensures answers { Some result ≡ face_given (outcome_of (house_of C.Censor.good C.Censor.decided C.Censor.after self.old.query_box) (state_of self.old.query_box) (Judge counterparty text.now)) }
-        ensures leaves { state_of self.new.query_box ≡ next_of (house_of C.Censor.good C.Censor.decided C.Censor.after self.old.query_box) (state_of self.old.query_box) (Judge counterparty text.now) }
-        ensures house { SameHouse self.old.query_box self.new.query_box }
+        ensures step { Step C.Censor.good C.Censor.decided C.Censor.after self.old.query_box (Judge counterparty text.now) (outcome_of (house_of C.Censor.good C.Censor.decided C.Censor.after self.old.query_box) (state_of self.old.query_box) (Judge counterparty text.now)) self.new.query_box }
         ensures slips { self.new.slips.items ≡ with_judged self.old.slips.items (outcome_of (house_of C.Censor.good C.Censor.decided C.Censor.after self.old.query_box) (state_of self.old.query_box) (Judge counterparty text.now)) }
     {
         let slip = match self.query_box.judge(counterparty, text) {

@@ -1,7 +1,7 @@
 // Entering slips that are kept.
 ghost use Rattle.std.specs.Prelude.{◌≡◌, if◌then◌else◌, slice_set};
 ghost use Rattle.querybox.specs.States.{state_of, house_of};
-ghost use Rattle.desks.specs.Answers.{SameHouse, replied, is_taken, entry_of, state_after};
+ghost use Rattle.desks.specs.Answers.{replied, is_taken, entry_of, Entered};
 ghost use Rattle.desks.specs.Slots.{slip_at, without};
 
 use super::Desk;
@@ -15,8 +15,7 @@ impl<C: Censor> Desk<C> {
     // Enters the slip that is kept for the counterparty, if there is one.
     pub fn enter(&mut self, counterparty: usize) -> Option<Reply>
         ensures answers { replied result ≡ entry_of (house_of C.Censor.good C.Censor.decided C.Censor.after self.old.query_box) (state_of self.old.query_box) (slip_at self.old.slips.items counterparty) }
-        ensures leaves { state_of self.new.query_box ≡ state_after (house_of C.Censor.good C.Censor.decided C.Censor.after self.old.query_box) (state_of self.old.query_box) (slip_at self.old.slips.items counterparty) }
-        ensures house { SameHouse self.old.query_box self.new.query_box }
+        ensures enters { Entered C.Censor.good C.Censor.decided C.Censor.after self.old.query_box (slip_at self.old.slips.items counterparty) self.new.query_box }
         ensures slips { self.new.slips.items ≡ without self.old.slips.items counterparty }
     {
         let slip = take_slip(&mut self.slips, counterparty)?;
@@ -34,8 +33,7 @@ impl<C: Censor> Desk<C> {
         counterparty: usize,
     ) -> Option<Result<Reply, BoxRefusal>>
         ensures answers { result ≡ entry_of (house_of C.Censor.good C.Censor.decided C.Censor.after self.old.query_box) (state_of self.old.query_box) (slip_at other.old.slips.items counterparty) }
-        ensures leaves { state_of self.new.query_box ≡ state_after (house_of C.Censor.good C.Censor.decided C.Censor.after self.old.query_box) (state_of self.old.query_box) (slip_at other.old.slips.items counterparty) }
-        ensures house { SameHouse self.old.query_box self.new.query_box }
+        ensures enters { Entered C.Censor.good C.Censor.decided C.Censor.after self.old.query_box (slip_at other.old.slips.items counterparty) self.new.query_box }
         ensures other { other.new.query_box ≡ other.old.query_box }
         ensures slips { self.new.slips.items ≡ (if is_taken result then without self.old.slips.items counterparty else self.old.slips.items) }
         ensures others { other.new.slips.items ≡ (if is_taken result then slice_set other.old.slips.items counterparty (slip_at self.old.slips.items counterparty) else other.old.slips.items) }

@@ -1,8 +1,8 @@
 // Setting up a desk, and closing it.
 ghost use Rattle.std.specs.Prelude.{◌≡◌, ℕ, true, IfOk, None};
-ghost use Rattle.querybox.specs.States.{state_of, house_of};
+ghost use Rattle.querybox.specs.States.{state_of};
 ghost use Rattle.desks.specs.Slots.{slip_at, is_awaited};
-ghost use Rattle.desks.specs.Answers.{SameHouse, state_after};
+ghost use Rattle.desks.specs.Answers.{Entered};
 
 use super::Desk;
 use censors::censor::Censor;
@@ -43,8 +43,7 @@ impl<C: Censor + Drop> Desk<C> {
 // Enters a slip that the box awaits, if there is one.
 fn enter_kept<C: Censor>(query_box: &mut QueryBox<C>, kept: Option<Slip>)
     requires { is_awaited query_box.old.number (state_of query_box.old).parties kept ≡ true }
-    ensures leaves { state_of query_box.new ≡ state_after (house_of C.Censor.good C.Censor.decided C.Censor.after query_box.old) (state_of query_box.old) kept }
-    ensures house { SameHouse query_box.old query_box.new }
+    ensures { Entered C.Censor.good C.Censor.decided C.Censor.after query_box.old kept query_box.new }
 {
     if let Some(slip) = kept {
         match query_box.enter(slip) {

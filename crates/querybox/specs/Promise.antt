@@ -18,11 +18,12 @@ Happened good decided after b [] (o ∷ os) b' = ⊥
 Happened good decided after b (x ∷ xs) [] b' = ⊥
 Happened {C} good decided after b (x ∷ xs) (o ∷ os) b' = (mid : QueryBox C) × Step good decided after b x o mid × Happened good decided after mid xs os b'
 
--- What is promised of a box to which these calls have happened: its answers and what it holds are the defined ones, no secret is given away, no reply is out of date, and nobody is there who was not enrolled.
+-- What is promised of a box to which these calls have happened: its answers and what it holds are the defined ones, it is what it was opened with, no secret is given away, no reply is out of date, and nobody is there who was not enrolled.
 pub record Kept {C : Type 0} (good : C → SheetSet → List SheetSet → Bool) (decided : C → SheetSet → List SheetSet → Question → Value → Decision)
     (after : C → SheetSet → List SheetSet → Question → Reply → SheetSet) (b : QueryBox C) (calls : List Call) (answers : List Outcome) (b' : QueryBox C) : Type 0 where
   pub answered : answers ≡ outcomes (house_of good decided after b) (state_of b) calls
   pub holds : state_of b' ≡ run (house_of good decided after b) (state_of b) calls
+  pub house : house_of good decided after b' ≡ house_of good decided after b
   pub hidden : AllSecretsKept (house_of good decided after b) (state_of b) calls
   pub current : AllUpToDate (house_of good decided after b) (state_of b) calls
   pub enrolled : AllEnrolled (house_of good decided after b) (state_of b) calls

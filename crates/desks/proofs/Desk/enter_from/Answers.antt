@@ -6,10 +6,10 @@ use Rattle.histories.specs.Refusals.{slip_refusal}
 use Rattle.querybox.specs.declared.query_box.QueryBox.{QueryBox}
 use Rattle.querybox.specs.declared.slip.Slip.{Slip}
 use Rattle.querybox.specs.States.{state_of, house_of}
-use Rattle.desks.specs.Answers.{entry_given, is_taken, entry_of, state_after}
+use Rattle.desks.specs.Answers.{entry_given, is_taken, entry_of}
 use Rattle.desks.specs.Slots.{slip_at, without}
 use Rattle.desks.proofs.Kept.{same_out, one_taken}
-use Rattle.desks.proofs.Moving.{read_slip, read_party, read_place, its-party, own-kept, others-kept, handed-back}
+use Rattle.desks.proofs.Moving.{entered-none, entered-some, read_slip, read_party, read_place, its-party, own-kept, others-kept, handed-back}
 use Rattle.desks.proofs.Places.{none_there, put_back, put_again, emptied, within}
 use Rattle.desks.proofs.Desk.enter_from.Given as given
 use Rattle.desks.proofs.Desk.enter_from.Goals as goal
@@ -37,8 +37,7 @@ returns-in_err-slip g c =
     let none = sym took.value ∙ c.in_err-slip.was in
     record {
       answers = c.from_residual.ensures ∙ sym (ap (entry_of (house g b) (state_of b)) none);
-      leaves = sym (ap (state_after (house g b) (state_of b)) none);
-      house = (refl, refl, refl, refl);
+      enters = entered-none g.C.Censor.good g.C.Censor.decided g.C.Censor.after b none;
       other = refl;
       slips = sym (ap (λ (r : Option (Result Reply BoxRefusal)). cond (is_taken r) (without own p) own) c.from_residual.ensures);
       others = took.items ∙ none_there d.slips.items p none
@@ -101,8 +100,7 @@ returns-in-Ok g c =
     let does = c.in-Ok.ensures in
     record {
       answers = ap entry_given does.answers ∙ sym (ap (entry_of (house g b) (state_of b)) kept);
-      leaves = does.leaves ∙ sym (ap (state_after (house g b) (state_of b)) kept);
-      house = (does.censor, does.number, does.names, does.rules);
+      enters = entered-some g.C.Censor.good g.C.Censor.decided g.C.Censor.after kept does;
       other = refl;
       slips = c.move_slip.ensures.from;
       others = crossed g (goal.at.returns-in-Ok g c).After-move_slip;
@@ -170,8 +168,7 @@ returns-in-Err g c =
     record {
       answers = ap refused c.refusal.ensures ∙ ap₂ turned (read_party c.read-party.ensures.is) (read_place c.read-party.ensures.is)
           ∙ ap entry_given does.answers ∙ sym (ap (entry_of (house g b) (state_of b)) kept);
-      leaves = does.leaves ∙ sym (ap (state_after (house g b) (state_of b)) kept);
-      house = (does.censor, does.number, does.names, does.rules);
+      enters = entered-some g.C.Censor.good g.C.Censor.decided g.C.Censor.after kept does;
       other = refl;
       slips = refl;
       others = back g (goal.at.returns-in-Err g c).After-put_slip;

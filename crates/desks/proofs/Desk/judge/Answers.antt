@@ -6,6 +6,7 @@ use Rattle.querybox.specs.declared.query_box.QueryBox.{QueryBox}
 use Rattle.querybox.specs.declared.slip.Slip.{Slip}
 use Rattle.querybox.specs.States.{state_of, house_of}
 use Rattle.querybox.proofs.Enrolments.{counted}
+use Rattle.querybox.proofs.Taken.{as-answered}
 use Rattle.desks.specs.Answers.{face_given, with_judged}
 use Rattle.desks.specs.Slots.{slip_at}
 use Rattle.desks.proofs.Kept.{same_out}
@@ -60,8 +61,7 @@ returns g c =
     let slip = read_slip c.read-party.ensures.is in
     record {
       answers = ap₂ given_face (read_party c.read-party.ensures.is) (read_place c.read-party.ensures.is) ∙ ap face_given does.answers;
-      leaves = does.leaves;
-      house = (does.censor, does.number, does.names, does.rules);
+      step = as-answered g.C.Censor.good g.C.Censor.decided g.C.Censor.after does;
       slips = c.put_slip.ensures.items
           ∙ ap₂ (λ (k : ℕ) (x : Slip). set d.slips.items k (Some x)) (read_party c.read-party.ensures.is) slip
           ∙ ap (with_judged d.slips.items) does.answers;
