@@ -1,5 +1,6 @@
 // The lines of a script.
 ghost use Rattle.std.specs.Prelude.{◌≤◌, length};
+ghost use Rattle.std.specs.Iterator.{at_most};
 
 // What is left of the script. A last line that is empty does not count.
 #[derive(Drop)]
@@ -16,9 +17,7 @@ impl<'a> Lines<'a> {
 impl<'a> Iterator for Lines<'a> {
     type Item = &'a [u8];
 
-    ghost ends = { λ _. Unit {0} };
-
-    ghost remaining = { λ s. length s.rest.now };
+    ghost remaining = { λ s. at_most (length s.rest.now) };
 
     fn next(&mut self) -> Option<&'a [u8]> {
         let text = self.rest;

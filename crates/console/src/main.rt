@@ -1,6 +1,7 @@
 // Runs the calls of a script on two boxes, one call a line, and prints what each answers.
 #![tactic(auto)]
 
+use anyhow::anyhow;
 use std::io::Read;
 use std::{env, fs};
 
@@ -45,9 +46,6 @@ fn run(rt: &HostRuntime) -> anyhow::Result<()> {
 fn read_file(rt: &HostRuntime, path: &str) -> anyhow::Result<Vec<u8>> {
     match fs::read(rt, path) {
         Ok(bytes) => Ok(bytes),
-        Err(error) => {
-            let message = format!(in rt.alloc(); "{path}: {error}")?;
-            Err(message.as_str().into())
-        }
+        Err(error) => Err(anyhow!("{path}: {error}")),
     }
 }

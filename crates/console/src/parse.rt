@@ -121,9 +121,9 @@ fn read_change(word: &[u8]) -> Result<Change, Flaw<'_>> {
     let Some((fact, value)) = parted(word, b'=') else {
         return Err(Flaw::MissingField("the value of a change"));
     };
-    let value = if value == b"yes" {
+    let value = if value == b"yes".as_slice() {
         true
-    } else if value == b"no" {
+    } else if value == b"no".as_slice() {
         false
     } else {
         return Err(Flaw::UnknownWord(word));

@@ -1,4 +1,5 @@
 // What a run does, as its arguments say.
+use anyhow::anyhow;
 use censors::builtin::Builtin;
 use std::env;
 use std::env::Args;
@@ -75,5 +76,7 @@ fn next_number(args: &mut Args) -> anyhow::Result<usize> {
 }
 
 fn usage() -> anyhow::Error {
-    "cost usual|hardest refusing|lying|combined NAMES COUNTERPARTIES SECRETS QUESTIONS WORDS AMENDMENTS".into()
+    anyhow!(
+        "cost usual|hardest refusing|lying|combined NAMES COUNTERPARTIES SECRETS QUESTIONS WORDS AMENDMENTS"
+    )
 }
