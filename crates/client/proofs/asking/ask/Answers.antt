@@ -1,4 +1,4 @@
-use Rattle.std.proofs.Common.{◌≡◌, sym, ap}
+use Rattle.std.proofs.Common.{sym, ap}
 use Rattle.querybox.specs.declared.slip.ReadSlip.{ReadSlip}
 use Rattle.querybox.specs.Slips.{slip_of}
 use Rattle.querybox.proofs.Happening.{asked-happened}
