@@ -1,9 +1,9 @@
 #!/bin/sh
-# Counts the instructions of a box's calls, as differences between runs of target/bin/cost under callgrind.
-# `rt check cost` builds the program. docs/COST.md says what the numbers mean.
+# Counts the instructions of a box's calls, as differences between runs of crates/cost/out/cost under callgrind.
+# `rt run` in crates/cost builds the program. docs/COST.md says what the numbers mean.
 set -eu
 root=$(cd "$(dirname "$0")/.." && pwd)
-cost=$root/target/bin/cost
+cost=$root/crates/cost/out/cost
 out=$(mktemp)
 trap 'rm -f "$out"' EXIT
 
