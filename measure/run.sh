@@ -20,7 +20,7 @@ inside() {
 
 # One question judged and entered, and one amendment: LOAD CENSOR NAMES COUNTERPARTIES SECRETS QUESTIONS WORDS
 calls() {
-    "$cost" "$1" "$2" "$3" "$4" "$5" "$6" "$7" 1 | grep -qx "questions entered: $6" || { echo "$*: not all questions are entered"; exit 1; }
+    "$cost" "$1" "$2" "$3" "$4" "$5" "$6" "$7" 1 | grep -x "questions entered: $6" >/dev/null || { echo "$*: not all questions are entered"; exit 1; }
     before=$(total "$1" "$2" "$3" "$4" "$5" $(($6 - 1)) "$7" 0)
     parse0=$(inside sentences::reading::parse) decide0=$(inside censors::builtin::BuiltinCensor::decide)
     after=$(total "$1" "$2" "$3" "$4" "$5" "$6" "$7" 0)
