@@ -15,30 +15,30 @@ module _ {good : SheetSet → List SheetSet → Bool} {decided : SheetSet → Li
     {after : SheetSet → List SheetSet → Question → Reply → SheetSet} (laws : Laws good decided after) (xs : List SheetSet) (few : Few xs) where
   -- by induction on the questions: after the first, the rest is asked from a good part of the record
   settled : (r : SheetSet) → good r xs ≡ true → (qs : List Question) (s : ℕ) → Settles good decided after xs r qs s
-  settled r g [] s = record { good-end = g; part = λ t h e. e; replies-alike = λ t h e. refl; record-alike = λ t h e. refl }
+  settled r g [] s = record { good_end = g; part = λ t h e. e; replies_alike = λ t h e. refl; record_alike = λ t h e. refl }
   settled r g (q ∷ qs) s =
       let rest = settled (record_after decided after xs r q s) (laws.stays r xs few g q (value_in q s)) qs s in
       let first : (t : ℕ) → t < 256 → mem (final decided after xs r (q ∷ qs) s) t ≡ true → reply_to decided after xs r q t ≡ reply_to decided after xs r q s =
       λ t h e. laws.same r xs few q (value_in q s) t h (rest.part t h e) in
       record {
-        good-end = rest.good-end;
+        good_end = rest.good_end;
         part = λ t h e. laws.part r xs few q (value_in q s) t h (rest.part t h e);
-        replies-alike = λ t h e.
+        replies_alike = λ t h e.
             ap₂ (λ (a : Reply) (more : List Reply). a ∷ more) (first t h e)
-            (ap (λ (a : Reply). replies decided after xs (after r xs q a) qs t) (first t h e) ∙ rest.replies-alike t h e);
-        record-alike = λ t h e. ap (λ (a : Reply). final decided after xs (after r xs q a) qs t) (first t h e) ∙ rest.record-alike t h e;
+            (ap (λ (a : Reply). replies decided after xs (after r xs q a) qs t) (first t h e) ∙ rest.replies_alike t h e);
+        record_alike = λ t h e. ap (λ (a : Reply). final decided after xs (after r xs q a) qs t) (first t h e) ∙ rest.record_alike t h e;
       }
 
   hidden : (r : SheetSet) → good r xs ≡ true → (qs : List Question) (s k : ℕ) → k < length xs → Untold decided after xs r qs s (get_or xs k no_sheet)
   hidden r g qs s k h =
       let end = settled r g qs s in
-      let out = laws.leaves (final decided after xs r qs s) xs few end.good-end k h in
+      let out = laws.leaves (final decided after xs r qs s) xs few end.good_end k h in
       record {
         other = out.sheet;
         small = out.small;
         inside = end.part out.sheet out.small out.inside;
         untrue = out.outside;
-        alike = end.replies-alike out.sheet out.small out.inside;
+        alike = end.replies_alike out.sheet out.small out.inside;
       }
 
 pub hides : {good : SheetSet → List SheetSet → Bool} {decided : SheetSet → List SheetSet → Question → Value → Decision}

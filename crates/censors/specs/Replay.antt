@@ -28,10 +28,10 @@ module _ (decided : SheetSet → List SheetSet → Question → Value → Decisi
 -- Whatever is asked from a good record r on, and whatever the true sheet s is, in r or not: the record that is left is good and a part of r, and each sheet of it would have brought the same replies and left the same record.
 pub record Settles (good : SheetSet → List SheetSet → Bool) (decided : SheetSet → List SheetSet → Question → Value → Decision)
     (after : SheetSet → List SheetSet → Question → Reply → SheetSet) (xs : List SheetSet) (r : SheetSet) (qs : List Question) (s : ℕ) : Type 0 where
-  pub good-end : good (final decided after xs r qs s) xs ≡ true
+  pub good_end : good (final decided after xs r qs s) xs ≡ true
   pub part : PartOf (final decided after xs r qs s) r
-  pub replies-alike : (t : ℕ) → t < 256 → mem (final decided after xs r qs s) t ≡ true → replies decided after xs r qs t ≡ replies decided after xs r qs s
-  pub record-alike : (t : ℕ) → t < 256 → mem (final decided after xs r qs s) t ≡ true → final decided after xs r qs t ≡ final decided after xs r qs s
+  pub replies_alike : (t : ℕ) → t < 256 → mem (final decided after xs r qs s) t ≡ true → replies decided after xs r qs t ≡ replies decided after xs r qs s
+  pub record_alike : (t : ℕ) → t < 256 → mem (final decided after xs r qs s) t ≡ true → final decided after xs r qs t ≡ final decided after xs r qs s
 
 -- Another sheet of r, in which the secret x is untrue, brings the same replies.
 pub record Untold (decided : SheetSet → List SheetSet → Question → Value → Decision) (after : SheetSet → List SheetSet → Question → Reply → SheetSet)

@@ -1,7 +1,7 @@
 // What a call answers, and how it is printed.
 use censors::question::Reply;
 use histories::refusals::{About, BoxRefusal, BoxReturned, SlipFace};
-use sentences::faults::{ListKind, Returned};
+use sentences::faults::Returned;
 use std::fmt;
 
 #[derive(Clone, Copy)]
@@ -82,7 +82,7 @@ fn write_part<W: fmt::Write>(f: &mut fmt::Formatter<W>, part: Returned) -> fmt::
     match part {
         Returned::Place(place) => write_number(f, "place ", place),
         Returned::Index(index) => write_number(f, "index ", index),
-        Returned::Kind(kind) => write_word(f, "kind ", kind_word(kind)),
+        Returned::Kind(kind) => write_word(f, "kind ", kind.word()),
     }
 }
 
@@ -94,13 +94,5 @@ fn about_word(about: About) -> &'static str {
         About::Secrets => "secrets",
         About::Question => "question",
         About::Amendment => "amendment",
-    }
-}
-
-fn kind_word(kind: ListKind) -> &'static str {
-    match kind {
-        ListKind::Names => "names",
-        ListKind::HouseRules => "house rules",
-        ListKind::Secrets => "secrets",
     }
 }

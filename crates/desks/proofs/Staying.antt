@@ -8,7 +8,7 @@ use Rattle.histories.specs.declared.data.BoxFault.TheVariants as fault
 use Rattle.histories.specs.declared.data.Change.{Change}
 use Rattle.histories.specs.declared.data.Pending.{Pending}
 use Rattle.histories.specs.Calls.{Text, House, Party, State, Slip, Enrol, Judge, Enter, Amend, Outcome, Refused, Enrolled, Judged, Shown, Replied, Unmatched, Amended, at, is_some, check, slip_out, enrolling, judging, matching, next_place, amending, asked, entered, judge_outcome, enter_outcome, outcome, after_enrol, after_judge, after_enter, after_amend, next}
-use Rattle.histories.proofs.Lookups.{at-change_other, at-change, at_push, check-index-ok}
+use Rattle.histories.proofs.Lookups.{at_change_other, at-change, at_push, check-index-ok}
 use Rattle.desks.specs.Slots.{awaited}
 
 -- the slips that were out for d are out for it still
@@ -63,7 +63,7 @@ module _ (h : House) (st : State) where
 module _ (h : House) (st : State) (c : ℕ) where
   judge-by : (r : Result Question BoxFault) (d : ℕ) → (d ≡ c → ⊥) → Stays st (after_judge h st c r) d
   judge-by (Err f) d ne k e = e
-  judge-by (Ok q) d ne k e = ap (awaited k) (at-change_other (asked h st.sheet q) st.parties c d ne) ∙ e
+  judge-by (Ok q) d ne k e = ap (awaited k) (at_change_other (asked h st.sheet q) st.parties c d ne) ∙ e
 
   pub judge-stays : (t : Text) (d : ℕ) → (d ≡ c → ⊥) → Stays st (next h st (Judge c t)) d
   judge-stays t d ne = judge-by (judging h c (at st.parties c) t) d ne
@@ -113,7 +113,7 @@ module _ (h : House) (st : State) (c : ℕ) where
 module _ (h : House) (st : State) (sl : Slip) where
   enter-by : (o : Option Pending) (d : ℕ) → (d ≡ sl.party → ⊥) → Stays st (after_enter h st sl.party o) d
   enter-by None d ne k e = e
-  enter-by (Some x) d ne k e = ap (awaited k) (at-change_other (entered h x) st.parties sl.party d ne) ∙ e
+  enter-by (Some x) d ne k e = ap (awaited k) (at_change_other (entered h x) st.parties sl.party d ne) ∙ e
 
   pub enter-stays : (d : ℕ) → (d ≡ sl.party → ⊥) → Stays st (next h st (Enter sl)) d
   enter-stays d ne = enter-by (matching h sl (at st.parties sl.party)) d ne

@@ -31,10 +31,10 @@ module _ (h : House) (laws : Laws h.good h.decided h.after) (w : ℕ → ℕ) (s
   settles s {b} k = (hides laws).settles b.start b.secrets k.few k.good (map (as_question h) b.past) s
 
   left-alike : (s : ℕ) {b : Bare} → Covers h w b → left_on h (w s) b ≡ left_on h s b
-  left-alike s k = (settles s k).record-alike (w s) (small s) (k.inside s)
+  left-alike s k = (settles s k).record_alike (w s) (small s) (k.inside s)
 
   log-alike : (s : ℕ) {b : Bare} → Covers h w b → log_on h (w s) b ≡ log_on h s b
-  log-alike s {b} k = ap (entries (map (as_question h) b.past)) ((settles s k).replies-alike (w s) (small s) (k.inside s))
+  log-alike s {b} k = ap (entries (map (as_question h) b.past)) ((settles s k).replies_alike (w s) (small s) (k.inside s))
 
   pub news-alike : (c s t : ℕ) (b : Option Bare) → On (Covers h w) b → news c (omap (fill h (w s)) b) (omap (fill h (w t)) b) ≡ news c (omap (fill h s) b) (omap (fill h t) b)
   news-alike c s t None k = refl

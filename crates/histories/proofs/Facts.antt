@@ -1,45 +1,14 @@
 -- Any sheet can be had by an amendment of all the facts.
-use Rattle.std.proofs.Common.{◌≡◌, ℕ, zero, suc, ◌+◌, ◌*◌, ◌/◌, ◌%◌, ◌^◌, ◌<◌, ◌≤◌, Bool, true, false, cond, eqb, List, map, length, get_or, None, sym, refl, ap, ◌∙◌, ap₂, ⊎_elim, le_refl, mod-eq_of_lt, pow-suc, add-one, one-add, arith}
-use Rattle.std.proofs.lemmas.Nat.{mod-pow-add, mod_below}
+use Rattle.std.proofs.Common.{◌≡◌, ℕ, zero, suc, ◌+◌, ◌^◌, ◌<◌, ◌≤◌, Bool, false, List, map, length, get_or, None, sym, refl, ap, ◌∙◌, ⊎_elim, le_refl, add-one, arith}
 use Rattle.std.proofs.lemmas.List.FromFn.{length-map-range_with_len, get_or-map-range_with_len}
 use Rattle.std.proofs.lemmas.Bool.{eq-eqb, ne_eqb, lt-leb, cases_eq}
 use Rattle.std.specs.List.{range_with_len}
-use Rattle.sheets.specs.Sets.{bit, digits}
+use Rattle.sheets.specs.Sets.{bit}
+use Rattle.sheets.proofs.Digits.{digits_ext, digits_below, digits-bit}
 use Rattle.sentences.specs.Search.{first}
 use Rattle.sentences.proofs.Searches.{first_none, first_more}
 use Rattle.histories.specs.declared.data.Change.{Change}
 use Rattle.histories.specs.Calls.{listed_before, bad_change, new_value, new_sheet}
-
--- ---- the number with given digits
-
-digits_ext : (f g : ℕ → Bool) (n : ℕ) → ((k : ℕ) → k < n → f k ≡ g k) → digits f n ≡ digits g n
-unfolding digits
-digits_ext f g zero e = refl
-digits_ext f g (suc n) e = ap₂ (λ (x : ℕ) (t : Bool). x + cond t (2 ^ n) 0) (digits_ext f g n (λ k l. e k (omega arith))) (e n (le_refl (suc n)))
-
-digits_below : (f : ℕ → Bool) (n : ℕ) → digits f n < 2 ^ n
-unfolding digits
-digits_below f zero = omega arith
-digits_below f (suc n) =
-    elim (f n) as (λ t. digits f n + cond t (2 ^ n) 0 < 2 ^ suc n) [
-      | true ↦ omega (arith, digits_below f n, pow-suc 2 n)
-      | false ↦ omega (arith, digits_below f n, pow-suc 2 n)
-    ]
-
--- a digit times its weight
-digit : (w n : ℕ) → cond (bit w n) (2 ^ n) 0 ≡ (w / 2 ^ n % 2) * 2 ^ n
-unfolding bit
-digit w n = go (w / 2 ^ n % 2) (mod_below (w / 2 ^ n) 2 (omega arith))
-  where
-    go : (d : ℕ) → d < 2 → cond (eqb d 1) (2 ^ n) 0 ≡ d * 2 ^ n
-    go zero l = omega arith
-    go (suc zero) l = omega arith
-    go (suc (suc d)) l = absurd (omega arith)
-
-digits-bit : (w n : ℕ) → digits (bit w) n ≡ w % 2 ^ n
-unfolding digits
-digits-bit w zero = omega arith
-digits-bit w (suc n) = omega (arith, digits-bit w n, digit w n, ap (λ (k : ℕ). w % 2 ^ k) (one-add n), mod-pow-add w 1 n)
 
 pub new_sheet_below : (n s : ℕ) (cs : List Change) → new_sheet n s cs < 2 ^ n
 unfolding new_sheet
@@ -62,7 +31,7 @@ pub new_sheet_all : (n s t : ℕ) → t < 2 ^ n → new_sheet n s (all_facts n t
 unfolding new_sheet
 new_sheet_all n s t l =
     digits_ext (λ k. new_value (all_facts n t) k (bit s k)) (bit t) n (λ k m. new_value_is t 0 n k (bit s k) (omega arith) (omega arith))
-    ∙ digits-bit t n ∙ mod-eq_of_lt l
+    ∙ digits-bit n t l
 
 module _ (n t : ℕ) where
   fact-at : (i : ℕ) → i < n → (get_or (all_facts n t) i (record { fact = 0; value = false })).fact ≡ i

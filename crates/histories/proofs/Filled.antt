@@ -11,7 +11,7 @@ use Rattle.histories.specs.declared.data.BoxFault.TheVariants as fault
 use Rattle.histories.specs.declared.data.Pending.{Pending}
 use Rattle.histories.specs.Calls.{Text, House, Party, State, Slip, Call, Enrol, Judge, Read, Enter, Amend, at, change, is_some, check_index, slip_out, judging, next_place, matching, enrolling, evaluated, remaining, questions, asked, entered, renewed, enrol_outcome, judge_outcome, enter_outcome, outcome, with_parties, after_enrol, after_judge, after_enter, after_amend, next, run}
 use Rattle.histories.proofs.Lookups.{omap, is_none, omap_some, omap_cond, at_map, map-change, ok_or, check-ok, never_ok}
-use Rattle.histories.proofs.Replaying.{final-more, logged-more, logged-questions, length-logged, record-left-is, evaluated-is}
+use Rattle.histories.proofs.Replaying.{final-more, logged-more, logged-questions, length-logged, remaining-is, evaluated-is}
 use Rattle.histories.proofs.Bare.{Bare, new_bare, bare_asked, bare_entered, bare_slip_out, bare_place, bare_enrol, bare_judge, bare_enter, read_question, as_question, bare_judging, bare_matching, amending_on, bare_next, sheet_next, bare_run, sheet_run, log_on, pending_on, fill, full}
 use Rattle.histories.proofs.Newcomers.{as_read}
 
@@ -112,7 +112,7 @@ module _ (h : House) where
       let qs : List Question = map (as_question h) b.past in
       let asked-again : questions h (fill h s b) ≡ qs = logged-questions h.decided h.after b.secrets b.start qs s in
       let log-again = ap (λ (l : List Question). evaluated h b.start b.secrets l t) asked-again ∙ evaluated-is h b.secrets b.start qs t in
-      let left-again = ap (λ (l : List Question). remaining h b.start b.secrets l t) asked-again ∙ record-left-is h b.secrets b.start qs t in
+      let left-again = ap (λ (l : List Question). remaining h b.start b.secrets l t) asked-again ∙ remaining-is h b.secrets b.start qs t in
       let no-slip : b.out ≡ None = is_none b.out e in
       let none : omap (pending_on h s b) b.out ≡ omap (pending_on h t b) b.out = rw no-slip in
       cc

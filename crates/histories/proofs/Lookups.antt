@@ -55,19 +55,19 @@ at-change f [] c x e = cc
 at-change f (y ∷ xs) zero x e = let same : y ≡ x = cc in ap (λ (z : _). Some (f z)) same
 at-change f (y ∷ xs) (suc c) x e = at-change f xs c x e
 
-pub at-change_other : {A : Type 0} (f : A → A) (xs : List A) (d c : ℕ) → (c ≡ d → ⊥) → at (change f xs d) c ≡ at xs c
-at-change_other f [] d c ne = refl
-at-change_other f (x ∷ xs) zero zero ne = absurd (ne refl)
-at-change_other f (x ∷ xs) zero (suc c) ne = refl
-at-change_other f (x ∷ xs) (suc d) zero ne = refl
-at-change_other f (x ∷ xs) (suc d) (suc c) ne = at-change_other f xs d c (λ e. ne (ap suc e))
+pub at_change_other : {A : Type 0} (f : A → A) (xs : List A) (d c : ℕ) → (c ≡ d → ⊥) → at (change f xs d) c ≡ at xs c
+at_change_other f [] d c ne = refl
+at_change_other f (x ∷ xs) zero zero ne = absurd (ne refl)
+at_change_other f (x ∷ xs) zero (suc c) ne = refl
+at_change_other f (x ∷ xs) (suc d) zero ne = refl
+at_change_other f (x ∷ xs) (suc d) (suc c) ne = at_change_other f xs d c (λ e. ne (ap suc e))
 
 -- a change at d leaves c alone, or c is d
 pub at-changed : {A : Type 0} (f : A → A) (xs : List A) (d c : ℕ) (x : A) → at xs d ≡ Some x
     → ((eqb c d ≡ true) × (at xs c ≡ Some x) × (at (change f xs d) c ≡ Some (f x))) ⊎ ((eqb c d ≡ false) × (at (change f xs d) c ≡ at xs c))
 at-changed f xs d c x e =
     ⊎_elim (λ same. inl (eq-eqb c d same, ap (at xs) same ∙ e, ap (at (change f xs d)) same ∙ at-change f xs d x e))
-    (λ ne. inr (ne_eqb c d ne, at-change_other f xs d c ne)) (cases_eq c d)
+    (λ ne. inr (ne_eqb c d ne, at_change_other f xs d c ne)) (cases_eq c d)
 
 pub at_push : {A : Type 0} (xs : List A) (x : A) (c : ℕ) → (at (xs ++ x ∷ []) c ≡ at xs c) ⊎ ((at xs c ≡ None) × (at (xs ++ x ∷ []) c ≡ Some x) × (length xs ≡ c))
 at_push [] x zero = inr (refl, refl, refl)

@@ -40,7 +40,7 @@ module _ (h : House) (s : ℕ) (calls : List Call) (c : ℕ) where
   another laws b is sound x escapes =
       let ends : (u : ℕ) → Settles h.good h.decided h.after b.secrets b.start (map (as_question h) b.past) u =
       (hides laws).settles b.start b.secrets sound.few sound.good (map (as_question h) b.past) in
-      let left : (u : ℕ) → LeftOut (left_on h u b) x = λ u. escapes sound.few (left_on h u b) (ends u).good-end in
+      let left : (u : ℕ) → LeftOut (left_on h u b) x = λ u. escapes sound.few (left_on h u b) (ends u).good_end in
       let w : ℕ → ℕ = λ u. (left u).sheet in
       let small : (u : ℕ) → w u < 256 = λ u. (left u).small in
       let known : (u : ℕ) → mem b.start (w u) ≡ true = λ u. (ends u).part (w u) (small u) (left u).inside in
@@ -51,8 +51,8 @@ module _ (h : House) (s : ℕ) (calls : List Call) (c : ℕ) where
         opened = full h (w s) [];
         opens = proper-opens h (proper s);
         others = other_calls h w s [] calls;
-        same-calls = others-blank h w s [] calls;
-        same-shown = shows_alike h w proper laws small c s [] calls (subst (On (Covers h w)) (sym is) covers);
+        same_calls = others-blank h w s [] calls;
+        same_shown = shows_alike h w proper laws small c s [] calls (subst (On (Covers h w)) (sym is) covers);
         untrue = other-sheets h w proper (λ u. (mem b.start u ≡ true) × (mem x u ≡ false)) (λ u. (known u, (left u).outside)) s [] calls;
       }
 
@@ -72,7 +72,7 @@ module _ (h : House) (s : ℕ) (calls : List Call) (c : ℕ) where
         party = fill new u (with_texts b b.past);
         there = ap (λ (st : State). at st.parties c) goes.leaves ∙ at_map (fill new u) asks.leaves c ∙ ap (omap (fill new u)) asks.there;
         same_log = refl;
-        same-record = refl;
+        same_record = refl;
       }
 
 module _ (h : House) (s : ℕ) (st : State) (e : opening h s ≡ Ok st) (calls : List Call) where

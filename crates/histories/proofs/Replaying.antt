@@ -40,9 +40,9 @@ module _ (decided : SheetSet → List SheetSet → Question → Value → Decisi
 
 -- a box judges all questions again as a replay does
 module _ (h : House) (xs : List SheetSet) where
-  pub record-left-is : (r : SheetSet) (qs : List Question) (s : ℕ) → remaining h r xs qs s ≡ final h.decided h.after xs r qs s
-  record-left-is r [] s = refl
-  record-left-is r (q ∷ qs) s = record-left-is (record_after h.decided h.after xs r q s) qs s
+  pub remaining-is : (r : SheetSet) (qs : List Question) (s : ℕ) → remaining h r xs qs s ≡ final h.decided h.after xs r qs s
+  remaining-is r [] s = refl
+  remaining-is r (q ∷ qs) s = remaining-is (record_after h.decided h.after xs r q s) qs s
 
   pub evaluated-is : (r : SheetSet) (qs : List Question) (s : ℕ) → evaluated h r xs qs s ≡ logged h.decided h.after xs r qs s
   evaluated-is r [] s = refl

@@ -158,10 +158,17 @@ new_value (c ∷ cs) k old = cond (k == c.fact) c.value (new_value cs k old)
 unfoldable pub new_sheet : ℕ → ℕ → List Change → ℕ
 new_sheet n s cs = digits (λ k. new_value cs k (bit s k)) n
 
+-- the index of the first rule that is untrue in the sheet
+abbrev pub first_untrue : List SheetSet → ℕ → Option ℕ
+first_untrue xs s = first (λ i. not (mem (slice_index_or xs i no_sheet) s)) (length xs)
+
+-- the sheets of n facts that keep all rules
+abbrev pub keeping : ℕ → List SheetSet → SheetSet
+keeping n xs = set_of (λ s. nat_lt s (2 ^ n) && all_have xs s)
+
 module _ (h : House) where
-  -- the index of the first house rule that is untrue in the sheet
   abbrev pub untrue_rule : ℕ → Option ℕ
-  untrue_rule s = first (λ i. not (mem (slice_index_or h.rules i no_sheet) s)) (length h.rules)
+  untrue_rule = first_untrue h.rules
 
   -- opening on a sheet: it has to be a sheet of the box, and to keep the house rules
   abbrev pub opening : ℕ → Result State BoxFault
@@ -169,7 +176,7 @@ module _ (h : House) where
 
   -- the sheets of the box that keep all house rules
   unfoldable pub lawful_sheets : SheetSet
-  lawful_sheets = set_of (λ s. nat_lt s (2 ^ length h.names) && all_have h.rules s)
+  lawful_sheets = keeping (length h.names) h.rules
 
   -- the record that a counterparty starts from: the sheets that make all house rules and the prior true
   abbrev pub start_from : Option Text → Result SheetSet BoxFault

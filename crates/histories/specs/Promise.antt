@@ -32,8 +32,8 @@ pub record Another (h : House) (st : State) (calls : List Call) (c : ℕ) (r x :
   pub opened : State
   pub opens : opening h sheet ≡ Ok opened
   pub others : List Call
-  pub same-calls : map blank others ≡ map blank calls
-  pub same-shown : shows h c opened others ≡ shows h c st calls
+  pub same_calls : map blank others ≡ map blank calls
+  pub same_shown : shows h c opened others ≡ shows h c st calls
   pub untrue : Each (λ s. (mem r s ≡ true) × (mem x s ≡ false)) (sheets_of h opened others)
 
 -- No secret is given away.
@@ -120,7 +120,7 @@ pub record Fresh (h : House) (s : ℕ) (calls : List Call) (c : ℕ) (p : Party)
   pub party : Party
   pub there : at (run h opened calls).parties c ≡ Some party
   pub same_log : party.log ≡ p.log
-  pub same-record : party.known ≡ p.known
+  pub same_record : party.known ≡ p.known
 
 -- No reply is out of date: a counterparty has what a box opened alike on the present sheet gives, after the enrolments carried out, with this counterparty's entered questions in order and nothing else.
 abbrev pub Current : House → State → List Call → Type 0

@@ -1,9 +1,7 @@
 -- The table of refusals of a box: each fault with its number, what it is about, and what it returns.
 use Rattle.std.specs.Prelude.{ℕ, Some, None, Option}
-use Rattle.sentences.specs.declared.faults.ListFault.{ListFault}
 use Rattle.sentences.specs.declared.faults.Refusal.{Refusal}
 use Rattle.sentences.specs.declared.faults.Returned.TheVariants.{Index}
-use Rattle.sentences.specs.declared.faults.SentenceFault.{SentenceFault}
 use Rattle.sentences.specs.Faults.{sentence_refusal, list_refusal}
 use Rattle.histories.specs.declared.data.AmendFault.TheVariants as amendment
 use Rattle.histories.specs.declared.data.BoxFault.{BoxFault}
@@ -26,18 +24,12 @@ of_index n a i = record { number = n; about = Some a; item = None; returned = re
 abbrev pub carried : About → Refusal → BoxRefusal
 carried a x = record { number = x.number; about = Some a; item = x.item; returned = returned.Part x.returned }
 
-abbrev pub about_sentence : About → SentenceFault → BoxRefusal
-about_sentence a f = carried a (sentence_refusal f)
-
-abbrev pub about_list : About → ListFault → BoxRefusal
-about_list a f = carried a (list_refusal f)
-
 abbrev pub box_refusal : BoxFault → BoxRefusal
-box_refusal (fault.Names f) = about_list about.Names f
-box_refusal (fault.HouseRules f) = about_list about.HouseRules f
-box_refusal (fault.Prior f) = about_sentence about.Prior f
-box_refusal (fault.Secrets f) = about_list about.Secrets f
-box_refusal (fault.Question f) = about_sentence about.Question f
+box_refusal (fault.Names f) = carried about.Names (list_refusal f)
+box_refusal (fault.HouseRules f) = carried about.HouseRules (list_refusal f)
+box_refusal (fault.Prior f) = carried about.Prior (sentence_refusal f)
+box_refusal (fault.Secrets f) = carried about.Secrets (list_refusal f)
+box_refusal (fault.Question f) = carried about.Question (sentence_refusal f)
 box_refusal (fault.Sheet s) = plain 8 (returned.Sheet s)
 box_refusal (fault.HouseRule i) = of_index 9 about.HouseRules i
 box_refusal fault.Full = plain 10 (returned.Limit 8)

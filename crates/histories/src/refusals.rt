@@ -1,9 +1,9 @@
 // The table of refusals of a box: each fault with its number, what it is about, and what it returns.
 ghost use Rattle.std.specs.Prelude.{◌≡◌};
-ghost use Rattle.histories.specs.Refusals.{box_refusal, slip_refusal, plain as plain_of, of_index, about_sentence, about_list};
+ghost use Rattle.histories.specs.Refusals.{box_refusal, slip_refusal, plain as plain_of, of_index, carried as carried_of};
 
 use super::data::{AmendFault, BoxFault};
-use sentences::faults::{ListFault, Returned, SentenceFault};
+use sentences::faults::{Refusal, Returned};
 
 // What was handed in that a refusal is about.
 #[derive(Clone, Copy, PartialEq, Eq, Debug)]
@@ -50,11 +50,11 @@ impl BoxFault {
         ensures { result ≡ box_refusal self.now }
     {
         match *self {
-            BoxFault::Names(fault) => about_list(About::Names, fault),
-            BoxFault::HouseRules(fault) => about_list(About::HouseRules, fault),
-            BoxFault::Prior(fault) => about_sentence(About::Prior, fault),
-            BoxFault::Secrets(fault) => about_list(About::Secrets, fault),
-            BoxFault::Question(fault) => about_sentence(About::Question, fault),
+            BoxFault::Names(fault) => carried(About::Names, fault.refusal()),
+            BoxFault::HouseRules(fault) => carried(About::HouseRules, fault.refusal()),
+            BoxFault::Prior(fault) => carried(About::Prior, fault.refusal()),
+            BoxFault::Secrets(fault) => carried(About::Secrets, fault.refusal()),
+            BoxFault::Question(fault) => carried(About::Question, fault.refusal()),
             BoxFault::Sheet(sheet) => plain(8, BoxReturned::Sheet(sheet)),
             BoxFault::HouseRule(index) => of_index(9, About::HouseRules, index),
             BoxFault::Full => plain(10, BoxReturned::Limit(8)),
@@ -104,22 +104,10 @@ fn of_index(number: u8, about: About, index: usize) -> BoxRefusal
     }
 }
 
-fn about_sentence(about: About, fault: SentenceFault) -> BoxRefusal
-    ensures { result ≡ about_sentence about fault }
+// A refusal of a text or a list, carried into the box's.
+fn carried(about: About, inner: Refusal) -> BoxRefusal
+    ensures { result ≡ carried_of about inner }
 {
-    let inner = fault.refusal();
-    BoxRefusal {
-        number: inner.number,
-        about: Some(about),
-        item: inner.item,
-        returned: BoxReturned::Part(inner.returned),
-    }
-}
-
-fn about_list(about: About, fault: ListFault) -> BoxRefusal
-    ensures { result ≡ about_list about fault }
-{
-    let inner = fault.refusal();
     BoxRefusal {
         number: inner.number,
         about: Some(about),

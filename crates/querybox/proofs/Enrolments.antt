@@ -16,7 +16,7 @@ use Rattle.histories.specs.Calls.{Text, House, Party, State, Enrol, Refused, Enr
 use Rattle.querybox.specs.declared.query_box.QueryBox.{QueryBox}
 use Rattle.querybox.specs.Enrolling.{prior_text}
 use Rattle.querybox.specs.Parties.{party_of}
-use Rattle.querybox.specs.Rules.{keeping}
+use Rattle.histories.specs.Calls.{keeping}
 use Rattle.querybox.specs.States.{state_of}
 use Rattle.querybox.proofs.Answering.{Does}
 use Rattle.querybox.proofs.Keeping.{keeping_lawful}

@@ -12,7 +12,7 @@ use Rattle.querybox.specs.declared.query_box.QueryBox.{QueryBox}
 use Rattle.sentences.specs.Lists.{sets_of}
 use Rattle.querybox.specs.Entries.{parties_of}
 use Rattle.querybox.specs.Promise.{Happened, Promise}
-use Rattle.querybox.specs.Rules.{first_untrue}
+use Rattle.histories.specs.Calls.{first_untrue}
 use Rattle.querybox.specs.States.{state_of, house_of, Step}
 use Rattle.querybox.proofs.Openings.{opens-on}
 use Rattle.querybox.proofs.Taken.{house-kept}

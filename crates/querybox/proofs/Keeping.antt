@@ -5,7 +5,7 @@ use Rattle.sheets.specs.declared.SheetSet.{SheetSet}
 use Rattle.sheets.specs.Sets.{mem, set_of, meet}
 use Rattle.sheets.proofs.Laws.{mem-set_of, set_of_ext}
 use Rattle.histories.specs.Calls.{House, all_have, lawful_sheets}
-use Rattle.querybox.specs.Rules.{keeping}
+use Rattle.histories.specs.Calls.{keeping}
 
 and-all : (b : Bool) → (b && true) ≡ b
 and-all true = refl

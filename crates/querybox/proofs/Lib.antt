@@ -9,7 +9,6 @@ pub mod Openings
 pub mod Enrolments
 pub mod SlipsOut
 pub mod ListedFacts
-pub mod SheetBits
 pub mod NewSheets
 pub mod Boxes
 pub mod Judging

@@ -8,7 +8,7 @@ use Rattle.sentences.proofs.Searches.{none-at}
 use Rattle.histories.specs.declared.data.Change.{Change}
 use Rattle.histories.specs.Calls.{listed_before, bad_change, new_value, new_sheet}
 use Rattle.querybox.proofs.ListedFacts.{fact_at, value_at}
-use Rattle.querybox.proofs.SheetBits.{bit_above, digits_is}
+use Rattle.sheets.proofs.Digits.{bit_above, digits_front}
 
 -- where no change is bad, each is of one of the facts
 pub fact_below : (n : ℕ) (cs : List Change) → first (bad_change n cs) (length cs) ≡ None → (i : ℕ) → i < length cs → fact_at cs i < n
@@ -33,5 +33,5 @@ pub new_sheet_is : (w n s r : ℕ) (cs : List Change) → n ≤ w → s < 2 ^ n 
 unfolding new_sheet
 new_sheet_is w n s r cs m h b e v =
     let whole : w ≡ n + (w - n) = omega arith in
-    digits_is n (w - n) r (λ k. new_value cs k (bit s k)) (subst (λ (x : ℕ). r < 2 ^ x) whole b)
+    digits_front n (w - n) r (λ k. new_value cs k (bit s k)) (subst (λ (x : ℕ). r < 2 ^ x) whole b)
     (λ k l. v k (omega arith)) (λ k l. new_value_above n cs k (bit s k) (fact_below n cs e) l ∙ bit_above n s k h l)

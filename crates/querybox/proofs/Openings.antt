@@ -16,7 +16,7 @@ use Rattle.histories.specs.declared.data.BoxFault.{BoxFault}
 use Rattle.histories.specs.declared.data.BoxFault.TheVariants as fault
 use Rattle.histories.specs.Calls.{House, State, and_then, as_list, check, check_index, untrue_rule, opening}
 use Rattle.querybox.specs.Opening.{Opened, as_names, opening_of, house_with, opens}
-use Rattle.querybox.specs.Rules.{first_untrue}
+use Rattle.histories.specs.Calls.{first_untrue}
 
 -- opening on a sheet that passes both checks
 pub opens-on : (h : House) (s : ℕ) → s < 2 ^ length h.names → None ≡ untrue_rule h s → opening h s ≡ Ok (record { sheet = s; parties = [] })

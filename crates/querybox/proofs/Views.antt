@@ -55,11 +55,11 @@ module _ (h : House) where
       let a : Reply = (h.decided r xs q (value_in q s)).reply in
       ap (λ (es : List Entry). record { question = q; reply = a } ∷ es) (evaluated-plain (h.after r xs q a) xs qs s)
 
-  record-left-plain : (r : SheetSet) (xs : List SheetSet) (qs : List Question) (s : ℕ) → remaining h r xs qs s ≡ remaining plain r xs qs s
-  record-left-plain r xs [] s = refl
-  record-left-plain r xs (q ∷ qs) s = record-left-plain (h.after r xs q (h.decided r xs q (value_in q s)).reply) xs qs s
+  remaining-plain : (r : SheetSet) (xs : List SheetSet) (qs : List Question) (s : ℕ) → remaining h r xs qs s ≡ remaining plain r xs qs s
+  remaining-plain r xs [] s = refl
+  remaining-plain r xs (q ∷ qs) s = remaining-plain (h.after r xs q (h.decided r xs q (value_in q s)).reply) xs qs s
 
   pub renewed-plain : (s : ℕ) (ps : List Party) → map (renewed h s) ps ≡ map (renewed plain s) ps
   renewed-plain s [] = refl
   renewed-plain s (p ∷ ps) =
-      rw (evaluated-plain p.start p.secrets (questions h p) s, record-left-plain p.start p.secrets (questions h p) s, renewed-plain s ps)
+      rw (evaluated-plain p.start p.secrets (questions h p) s, remaining-plain p.start p.secrets (questions h p) s, renewed-plain s ps)

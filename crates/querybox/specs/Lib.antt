@@ -3,7 +3,6 @@ pub mod Entries
 pub mod Notes
 pub mod Slips
 pub mod States
-pub mod Rules
 pub mod Opening
 pub mod Enrolling
 pub mod Looking

@@ -68,7 +68,7 @@ pub(crate) fn amended_sheet(facts: usize, sheet: u16, changes: &[Change]) -> u16
     ensures { result ≡ new_sheet facts sheet changes.now }
 {
     let mut amended = sheet;
-    // From the last to the first, since the value that a fact gets is the first one listed for it.
+    // From the last to the first, as the definition takes the list; no fact is listed twice, so any order would do.
     for index in (0..changes.len()).rev() {
         let change = changes[index];
         amended = with_value(amended, change.fact, change.value);

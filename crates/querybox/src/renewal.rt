@@ -57,7 +57,7 @@ fn renew_one<C: Censor>(
 }
 
 // The questions of one counterparty are judged again, in their order, from the record that it started from.
-pub(crate) fn renew<C: Censor>(censor: &C, inner: &mut Inner<Party>, p: usize, sheet: u16)
+fn renew<C: Censor>(censor: &C, inner: &mut Inner<Party>, p: usize, sheet: u16)
     requires { Holds inner.old p }
     ensures { Moved (renewed (plain_house (C.Censor.good censor.now) (C.Censor.decided censor.now) (C.Censor.after censor.now)) sheet) p inner.old inner.new }
 {

@@ -2,7 +2,7 @@
 ghost use Rattle.std.specs.Prelude.{◌≡◌, length};
 ghost use Rattle.sentences.specs.Lists.{sets_of};
 ghost use Rattle.sentences.specs.Naming.{words};
-ghost use Rattle.querybox.specs.Rules.{first_untrue, keeping};
+ghost use Rattle.histories.specs.Calls.{first_untrue, keeping};
 
 use sentences::lists::SentenceList;
 use sentences::names::Names;

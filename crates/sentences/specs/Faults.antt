@@ -1,9 +1,11 @@
 -- The table of refusals: each fault with its number and what it returns.
-use Rattle.std.specs.Prelude.{ℕ, Some, None}
+use Rattle.std.specs.Prelude.{ℕ, List, Some, None, codes}
 use Rattle.sentences.specs.declared.faults.SentenceFault.{SentenceFault}
 use Rattle.sentences.specs.declared.faults.SentenceFault.TheVariants.{TooLong, Stray, Unknown, Misfit}
 use Rattle.sentences.specs.declared.faults.ListFault.{ListFault}
 use Rattle.sentences.specs.declared.faults.ListFault.TheVariants.{Count, BadPair, BadName, Sentence}
+use Rattle.sentences.specs.declared.faults.ListKind.{ListKind}
+use Rattle.sentences.specs.declared.faults.ListKind.TheVariants.{Names, HouseRules, Secrets}
 use Rattle.sentences.specs.declared.faults.Returned.{Returned}
 use Rattle.sentences.specs.declared.faults.Returned.TheVariants.{Place, Index, Kind}
 use Rattle.sentences.specs.declared.faults.Refusal.{Refusal}
@@ -27,3 +29,9 @@ list_refusal (BadPair i) = plain 5 (Index i)
 list_refusal (BadName i) = plain 6 (Index i)
 list_refusal (Count k) = plain 7 (Kind k)
 list_refusal (Sentence i f) = of_item i (sentence_refusal f)
+
+-- each kind of list with the word that it is written with
+abbrev pub kind_word : ListKind → List ℕ
+kind_word Names = codes "names"
+kind_word HouseRules = codes "house rules"
+kind_word Secrets = codes "secrets"

@@ -1,6 +1,6 @@
 // What can be wrong with a text or a list, and the table of refusals that numbers it.
 ghost use Rattle.std.specs.Prelude.{◌≡◌};
-ghost use Rattle.sentences.specs.Faults.{sentence_refusal, list_refusal};
+ghost use Rattle.sentences.specs.Faults.{kind_word, sentence_refusal, list_refusal};
 
 // Why a text is no sentence, with the place of the byte at which reading stopped.
 #[derive(Clone, Copy, PartialEq, Eq, Debug)]
@@ -21,6 +21,19 @@ pub enum ListKind {
     Names,
     HouseRules,
     Secrets,
+}
+
+impl ListKind {
+    // The word that a kind of list is written with.
+    pub fn word(&self) -> &'static str
+        ensures { result.now ≡ kind_word self.now }
+    {
+        match *self {
+            ListKind::Names => "names",
+            ListKind::HouseRules => "house rules",
+            ListKind::Secrets => "secrets",
+        }
+    }
 }
 
 // Why a list is refused. A sentence's own fault is carried whole, beside the sentence's index.

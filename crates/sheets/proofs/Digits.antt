@@ -1,9 +1,11 @@
 -- The binary digits of a number, at any width.
-use Rattle.std.proofs.Common.{◌≡◌, ℕ, zero, suc, ◌+◌, ◌-◌, ◌*◌, ◌/◌, ◌%◌, ◌^◌, ◌<◌, Bool, true, false, cond, not, ◌&&◌, ◌||◌, eqb, sym, refl, ap, ◌∙◌, ap₂, le_refl, le_of_suc-le-suc, not-suc-le-zero, add-zero, add_assoc, add-suc, mod-lt, zero-lt-suc, pow-suc, zero-add, div-one, one-add, arith, shr-shr}
-use native.Mathlib.Nat.{zero-div}
+use Rattle.std.proofs.Common.{◌≡◌, ℕ, zero, suc, ◌+◌, ◌-◌, ◌*◌, ◌/◌, ◌%◌, ◌^◌, ◌<◌, ◌≤◌, Bool, true, false, cond, not, ◌&&◌, ◌||◌, eqb, sym, refl, ap, ◌∙◌, ap₂, le_refl, le_of_suc-le-suc, not-suc-le-zero, add-zero, add_assoc, add-suc, mod-lt, zero-lt-suc, pow-suc, zero-add, div-one, one-add, arith, pow_mono, shr-shr}
+use native.Mathlib.Nat.{div-eq_of_lt, zero-div}
 use lib.Arith.{lt-one}
 use lib.Bits.{bit_and, bit_or, and_shr, and_mod, or_shr, or_mod}
 use lib.Count.{ones, ones_step}
+use lib.Dec.{eqb-zero-suc, eqb-suc-zero, eqb-suc-suc}
+use lib.Pow.{pow-lt}
 use Rattle.sheets.specs.Sets.{bit, digits, count}
 
 -- what holds of 0 and of 1 holds of x % 2
@@ -49,6 +51,13 @@ bit-suc : (n k : ℕ) → bit n (suc k) ≡ bit (n / 2) k
 unfolding bit
 bit-suc n k = ap (bit n) (sym (one-add k)) ∙ ap (λ (x : ℕ). eqb (x % 2) 1) (sym (shr-shr n 1 k))
 
+-- a number of n digits has no digit from n on
+pub bit_above : (n w k : ℕ) → w < 2 ^ n → n ≤ k → bit w k ≡ false
+unfolding bit
+bit_above n w k h l =
+    let below : w < 2 ^ k = omega (arith, pow_mono l) in
+    ap (λ (x : ℕ). eqb (x % 2) 1) (div-eq_of_lt below)
+
 -- the complement at w digits
 pub bit_not : (w a k : ℕ) → a < 2 ^ w → k < w → bit ((2 ^ w - 1) - a) k ≡ not (bit a k)
 bit_not zero a k h l = absurd (not-suc-le-zero l)
@@ -66,6 +75,40 @@ bit_not (suc w) a (suc k) h l =
 pub bit-minus : (w a b k : ℕ) → b < 2 ^ w → k < w → bit (bit_and a ((2 ^ w - 1) - b)) k ≡ (bit a k && not (bit b k))
 bit-minus w a b k h l = bit-and a ((2 ^ w - 1) - b) k ∙ ap (λ (t : Bool). bit a k && t) (bit_not w b k h l)
 
+-- a power of two has one digit
+bit_power : (f k : ℕ) → bit (2 ^ f) k ≡ eqb k f
+bit_power zero zero = bit-zero 1
+bit_power zero (suc k) = bit-suc 1 k ∙ bit_above 0 0 k (omega arith) (omega arith) ∙ sym (eqb-suc-zero k)
+bit_power (suc f) zero =
+    let e : 2 ^ suc f % 2 ≡ 0 = omega (arith, pow-suc 2 f) in
+    bit-zero (2 ^ suc f) ∙ ap (λ (x : ℕ). eqb x 1) e ∙ sym (eqb-zero-suc f)
+bit_power (suc f) (suc k) =
+    let e : 2 ^ suc f / 2 ≡ 2 ^ f = omega (arith, pow-suc 2 f) in
+    bit-suc (2 ^ suc f) k ∙ ap (λ (x : ℕ). bit x k) e ∙ bit_power f k ∙ sym (eqb-suc-suc k f)
+
+-- ---- one digit set or cleared
+
+or-cond : (a t : Bool) → (a || t) ≡ cond t true a
+or-cond true true = refl
+or-cond true false = refl
+or-cond false true = refl
+or-cond false false = refl
+
+and-not-cond : (a t : Bool) → (a && not t) ≡ cond t false a
+and-not-cond true true = refl
+and-not-cond true false = refl
+and-not-cond false true = refl
+and-not-cond false false = refl
+
+pub bit-set : (s f k : ℕ) → bit (bit_or s (2 ^ f)) k ≡ cond (eqb k f) true (bit s k)
+bit-set s f k = bit-or s (2 ^ f) k ∙ ap (λ (t : Bool). bit s k || t) (bit_power f k) ∙ or-cond (bit s k) (eqb k f)
+
+pub bit_cleared : (w s f k : ℕ) → f < w → k < w → bit (bit_and s ((2 ^ w - 1) - 2 ^ f)) k ≡ cond (eqb k f) false (bit s k)
+bit_cleared w s f k h l =
+    bit-and s ((2 ^ w - 1) - 2 ^ f) k
+    ∙ ap (λ (t : Bool). bit s k && t) (bit_not w (2 ^ f) k (pow-lt h) l ∙ ap not (bit_power f k))
+    ∙ and-not-cond (bit s k) (eqb k f)
+
 -- ---- the number with given digits
 
 pub digits_ext : (f g : ℕ → Bool) (n : ℕ) → ((k : ℕ) → k < n → f k ≡ g k) → digits f n ≡ digits g n
@@ -73,6 +116,15 @@ unfolding digits
 digits_ext f g zero e = refl
 digits_ext f g (suc n) e =
     ap₂ (λ (x : ℕ) (t : Bool). x + cond t (2 ^ n) 0) (digits_ext f g n (λ k l. e k (omega arith))) (e n (le_refl (suc n)))
+
+pub digits_below : (f : ℕ → Bool) (n : ℕ) → digits f n < 2 ^ n
+unfolding digits
+digits_below f zero = omega arith
+digits_below f (suc n) =
+    elim (f n) as (λ t. digits f n + cond t (2 ^ n) 0 < 2 ^ suc n) [
+      | true ↦ omega (arith, digits_below f n, pow-suc 2 n)
+      | false ↦ omega (arith, digits_below f n, pow-suc 2 n)
+    ]
 
 -- twice a digit's weight is the weight of the next digit
 weight : (t : Bool) (n : ℕ) → cond t (2 ^ suc n) 0 ≡ 2 * cond t (2 ^ n) 0
@@ -112,7 +164,7 @@ odd : (a : ℕ) → cond (bit a 0) 1 0 ≡ a % 2
 odd a = ap (λ (t : Bool). cond t 1 0) (bit-zero a) ∙ parity (λ d. cond (eqb d 1) 1 0 ≡ d) refl refl a
 
 -- a number of w digits is the one with its own digits
-digits-bit : (w a : ℕ) → a < 2 ^ w → digits (bit a) w ≡ a
+pub digits-bit : (w a : ℕ) → a < 2 ^ w → digits (bit a) w ≡ a
 unfolding digits
 digits-bit zero a h = sym (lt-one h)
 digits-bit (suc w) a h =
@@ -122,6 +174,18 @@ digits-bit (suc w) a h =
 
 pub digits_is : (w a : ℕ) (f : ℕ → Bool) → a < 2 ^ w → ((k : ℕ) → k < w → bit a k ≡ f k) → a ≡ digits f w
 digits_is w a f h e = sym (digits-bit w a h) ∙ digits_ext (bit a) f w e
+
+-- digits that are not set add nothing
+digits_trim : (f : ℕ → Bool) (n m : ℕ) → ((k : ℕ) → n ≤ k → f k ≡ false) → digits f (n + m) ≡ digits f n
+unfolding digits
+digits_trim f n zero e = ap (digits f) (add-zero n)
+digits_trim f n (suc m) e =
+    ap (digits f) (add-suc n m) ∙ ap₂ (λ (x : ℕ) (t : Bool). x + cond t (2 ^ (n + m)) 0) (digits_trim f n m e) (e (n + m) (omega arith))
+    ∙ add-zero (digits f n)
+
+-- a number of n + m digits, of which those from n on are not set, is the one with its first n digits
+pub digits_front : (n m a : ℕ) (f : ℕ → Bool) → a < 2 ^ (n + m) → ((k : ℕ) → k < n + m → bit a k ≡ f k) → ((k : ℕ) → n ≤ k → f k ≡ false) → a ≡ digits f n
+digits_front n m a f h e z = digits_is (n + m) a f h e ∙ digits_trim f n m z
 
 -- ---- counting
 

@@ -1,4 +1,4 @@
-mod Digits
+pub mod Digits
 mod Words
 mod Tables
 pub mod Laws

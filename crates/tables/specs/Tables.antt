@@ -1,3 +1,4 @@
+-- A table with one entry replaced.
 use Rattle.std.specs.Prelude.{ℕ, slice_set}
 use Rattle.tables.specs.declared.Table.{Table}
 

@@ -40,7 +40,7 @@ tested = refl
 -- from what comes out of a run to what a row of runs says
 out_at : (h : House) (s : ℕ) (ss : List Step) (left : Option SheetSet) (o : Result State BoxFault)
     → opening h s ≡ o → played_from h ss o ≡ played (answers_of 0 ss) left → ComesOut h s ss left
-out_at h s ss left (Ok st) at-opening e = record { opened = st; opens-so = at-opening; answers-so = cc; leaves-so = cc }
+out_at h s ss left (Ok st) at-opening e = record { opened = st; opens_so = at-opening; answers_so = cc; leaves_so = cc }
 out_at h s ss left (Err f) at-opening e = let z : ◌≡◌ {A = ℕ} 0 1 = cc in absurd (omega arith)
 
 run_holds : (x : Run) → computed_run x ≡ expected_run x → RunHolds x

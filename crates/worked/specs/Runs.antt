@@ -90,6 +90,6 @@ known_to None = None
 -- exactly this comes out, where the record of counterparty 0 is to be `left`
 pub record ComesOut (h : House) (sheet : ℕ) (steps : List Step) (left : Option SheetSet) : Type 0 where
   pub opened : State
-  pub opens-so : opening h sheet ≡ Ok opened
-  pub answers-so : map answer (outcomes h opened (calls_of 0 steps)) ≡ answers_of 0 steps
-  pub leaves-so : known_to (at (run h opened (calls_of 0 steps)).parties 0) ≡ left
+  pub opens_so : opening h sheet ≡ Ok opened
+  pub answers_so : map answer (outcomes h opened (calls_of 0 steps)) ≡ answers_of 0 steps
+  pub leaves_so : known_to (at (run h opened (calls_of 0 steps)).parties 0) ≡ left

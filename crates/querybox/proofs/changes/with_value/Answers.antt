@@ -2,7 +2,7 @@ use Rattle.std.proofs.Common.{ℕ, ◌-◌, Bool, cond, eqb, sym, ap, ◌∙◌}
 use lib.Bits.{bit_and, bit_or}
 use Rattle.std.proofs.lemmas.Nat.{one_shl}
 use Rattle.sheets.specs.Sets.{bit}
-use Rattle.querybox.proofs.SheetBits.{bit-set, bit_cleared}
+use Rattle.sheets.proofs.Digits.{bit-set, bit_cleared}
 use Rattle.querybox.proofs.changes.with_value.Goals as goal
 
 pub returns-then-value : goal.returns-then-value

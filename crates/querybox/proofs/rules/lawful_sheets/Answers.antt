@@ -2,7 +2,7 @@ use Rattle.std.proofs.Common.{◌≡◌, ℕ, ◌+◌, ◌^◌, ◌<◌, ◌≤�
 use Rattle.std.proofs.lemmas.List.{take_all}
 use Rattle.sheets.specs.declared.SheetSet.{SheetSet}
 use Rattle.sheets.specs.Sets.{set_of, meet}
-use Rattle.querybox.specs.Rules.{keeping}
+use Rattle.histories.specs.Calls.{keeping}
 use Rattle.querybox.proofs.Keeping.{keeping_none, keeping_more}
 use Rattle.querybox.proofs.rules.lawful_sheets.Goals as goal
 

@@ -1,7 +1,7 @@
 use Rattle.std.proofs.Common.{◌≡◌, length, take}
 use Rattle.sentences.specs.Lists.{sets_of}
 use Rattle.sentences.specs.Naming.{words}
-use Rattle.querybox.specs.Rules.{keeping}
+use Rattle.histories.specs.Calls.{keeping}
 use Rattle.querybox.proofs.rules.lawful_sheets.Given as goal
 
 -- the sheets that keep the rules that were passed
