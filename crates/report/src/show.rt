@@ -47,7 +47,7 @@ pub fn print_caret(rt: &HostRuntime, text: &[u8], place: usize) -> io::Result<()
     print_below(rt, text, place, width)
 }
 
-// The caret ends a line of this width, so what is shown before the place stands just before it.
+// The caret ends a line of this width, so what is shown before the place stands above the blanks. Only the clause reads the place.
 fn print_below(rt: &HostRuntime, text: &[u8], place: usize, width: usize) -> io::Result<()>
     requires { width ≡ columns (take place text.now) + 1 }
 {
@@ -98,12 +98,14 @@ pub fn print_set(rt: &HostRuntime, set: &SheetSet, all: u16) -> io::Result<()> {
     print_members(rt, set, sheets.as_slice())
 }
 
+// Only the clause reads the set.
 fn print_count(rt: &HostRuntime, set: &SheetSet, count: u16, all: u16) -> io::Result<()>
     requires { count ≡ count_of (mem set.now) 256 }
 {
     print!(rt; "  true in {count} of {all} sheets")
 }
 
+// Only the clause reads the set.
 fn print_members(rt: &HostRuntime, set: &SheetSet, sheets: &[u16]) -> io::Result<()>
     requires { sheets.now ≡ passing (mem set.now) 256 }
 {
