@@ -1,3 +1,4 @@
 pub mod Labels
 pub mod Pairs
 pub mod Passing
+pub mod Printed

@@ -1,4 +1,6 @@
 // The report of one file, line by line: its names, and its sentences in their order.
+ghost use Rattle.std.specs.Prelude.{◌≡◌, ◌+◌, ◌-◌, ◌^◌, min};
+
 use super::end_report::report_end;
 use super::file_report::{FileReport, Naming};
 use super::input::{Label, Line, Split, read_line, without_return, words};
@@ -13,23 +15,35 @@ use std::alloc::{AllocError, Global};
 use std::io;
 
 pub fn report(rt: &HostRuntime, name: &str, text: &[u8]) -> io::Result<()> {
-    let name = Shown {
+    let title = Shown {
         text: name.as_bytes(),
     };
-    println!(rt; "== {name} ==")?;
+    print_title(rt, name, title)?;
     let mut so_far = FileReport::new(rt.alloc());
-    report_text(rt, &mut so_far, text)
+    for (index, line) in Split::new(text, b'\n').enumerate() {
+        let number = index.saturating_add(1);
+        report_numbered(rt, &mut so_far, index, number, without_return(line))?;
+    }
+    report_end(rt, &so_far)
 }
 
-fn report_text<'a>(
+fn print_title(rt: &HostRuntime, name: &str, title: Shown) -> io::Result<()>
+    requires { title.text.now ≡ name.now }
+{
+    println!(rt; "== {title} ==")
+}
+
+// The index counts from 0, and a reader counts lines from 1.
+fn report_numbered<'a>(
     rt: &HostRuntime,
     so_far: &mut FileReport<'a>,
-    text: &'a [u8],
-) -> io::Result<()> {
-    for (index, line) in Split::new(text, b'\n').enumerate() {
-        report_line(rt, so_far, index.saturating_add(1), without_return(line))?;
-    }
-    report_end(rt, so_far)
+    index: usize,
+    number: usize,
+    line: &'a [u8],
+) -> io::Result<()>
+    requires { number ≡ min (index + 1) (2 ^ 64 - 1) }
+{
+    report_line(rt, so_far, number, line)
 }
 
 fn report_line<'a>(

@@ -4,6 +4,9 @@ ghost use Rattle.censors.specs.declared.question.Value.TheVariants.{Yes, No};
 ghost use Rattle.censors.specs.Kinds.{good_of, table_of};
 ghost use Rattle.censors.specs.Questions.{reply_word};
 ghost use Rattle.censors.specs.Tables.{decided_by, harm_of};
+ghost use Rattle.sentences.specs.Lists.{sets_of};
+ghost use Rattle.sheets.specs.Sets.{mem, count as count_of};
+ghost use Rattle.report.specs.Printed.{all_censors, censor_word};
 
 use super::show::Shown;
 use censors::builtin::Builtin;
@@ -100,7 +103,9 @@ fn reply_name(reply: Reply) -> &'static str
     reply.word()
 }
 
-fn censor_name(censor: Builtin) -> &'static str {
+fn censor_name(censor: Builtin) -> &'static str
+    ensures { result.now ≡ censor_word censor }
+{
     match censor {
         Builtin::Refusing => "refusing",
         Builtin::Lying => "lying",
@@ -110,10 +115,27 @@ fn censor_name(censor: Builtin) -> &'static str {
 
 // What all censors would do, each from the same record.
 pub fn print_outlook(rt: &HostRuntime, opening: &Opening, questions: &[Asked]) -> io::Result<()> {
-    let sheets = opening.known.count();
-    println!(rt; "censors, from a record of {sheets} sheets:")?;
-    for censor in [Builtin::Refusing, Builtin::Lying, Builtin::Combined] {
-        print_censor(rt, opening, questions, censor)?;
+    print_record(rt, opening, opening.known.count())?;
+    let censors = [Builtin::Refusing, Builtin::Lying, Builtin::Combined];
+    print_censors(rt, opening, questions, &censors)
+}
+
+fn print_record(rt: &HostRuntime, opening: &Opening, sheets: u16) -> io::Result<()>
+    requires { sheets ≡ count_of (mem opening.now.known) 256 }
+{
+    println!(rt; "censors, from a record of {sheets} sheets:")
+}
+
+fn print_censors(
+    rt: &HostRuntime,
+    opening: &Opening,
+    questions: &[Asked],
+    censors: &[Builtin],
+) -> io::Result<()>
+    requires { censors.now ≡ all_censors }
+{
+    for censor in censors {
+        print_censor(rt, opening, questions, *censor)?;
     }
     Ok(())
 }
@@ -125,12 +147,30 @@ fn print_censor(
     questions: &[Asked],
     censor: Builtin,
 ) -> io::Result<()> {
-    let name = censor_name(censor);
-    if !censor.is_good(&opening.known, opening.secrets.sets()) {
-        return println!(rt; "  {name}: not good, so nobody can be enrolled");
+    let good = censor.is_good(&opening.known, opening.secrets.sets());
+    print_start(rt, opening, censor, censor_name(censor), good)?;
+    if good {
+        print_questions(rt, opening, questions, censor)
+    } else {
+        Ok(())
     }
-    println!(rt; "  {name}: good")?;
-    print_questions(rt, opening, questions, censor)
+}
+
+fn print_start(
+    rt: &HostRuntime,
+    opening: &Opening,
+    censor: Builtin,
+    name: &str,
+    good: bool,
+) -> io::Result<()>
+    requires word { name.now ≡ censor_word censor }
+    requires test { good ≡ good_of censor opening.now.known (sets_of opening.now.secrets) }
+{
+    if good {
+        println!(rt; "  {name}: good")
+    } else {
+        println!(rt; "  {name}: not good, so nobody can be enrolled")
+    }
 }
 
 fn print_questions(
@@ -151,13 +191,27 @@ fn print_question(
     asked: &Asked,
     censor: Builtin,
 ) -> io::Result<()> {
-    let number = asked.number;
-    let text = Shown { text: asked.text };
     let outlook = Outlook::new(
         censor,
         &opening.known,
         opening.secrets.sets(),
         &asked.question,
     );
+    print_replies(rt, opening, asked, censor, outlook)
+}
+
+fn print_replies(
+    rt: &HostRuntime,
+    opening: &Opening,
+    asked: &Asked,
+    censor: Builtin,
+    outlook: Outlook,
+) -> io::Result<()>
+    requires harm { outlook.harm ≡ harm_of (good_of censor) opening.now.known (sets_of opening.now.secrets) asked.now.question }
+    requires yes { outlook.on_yes ≡ (decided_by (good_of censor) (table_of censor) opening.now.known (sets_of opening.now.secrets) asked.now.question Yes).reply }
+    requires no { outlook.on_no ≡ (decided_by (good_of censor) (table_of censor) opening.now.known (sets_of opening.now.secrets) asked.now.question No).reply }
+{
+    let number = asked.number;
+    let text = Shown { text: asked.text };
     println!(rt; "    question {number}, {text}: {outlook}")
 }

@@ -1,7 +1,8 @@
 // How texts and sets of sheets are printed.
-ghost use Rattle.std.specs.Prelude.{◌≡◌, ◌+◌, ◌≤◌, min, IfOk};
-ghost use Rattle.sheets.specs.Sets.{mem};
+ghost use Rattle.std.specs.Prelude.{◌≡◌, ◌+◌, ◌≤◌, min, take, IfOk};
+ghost use Rattle.sheets.specs.Sets.{mem, count as count_of};
 ghost use Rattle.report.specs.Passing.{passing};
+ghost use Rattle.report.specs.Printed.{columns};
 
 use sheets::SheetSet;
 use std::alloc::{AllocError, Global};
@@ -42,8 +43,15 @@ fn printable(byte: u8) -> char
 
 // The text, and a caret below the place. A place past the end is just after the text.
 pub fn print_caret(rt: &HostRuntime, text: &[u8], place: usize) -> io::Result<()> {
+    let width = caret_width(place.min(text.len()));
+    print_below(rt, text, place, width)
+}
+
+// The caret ends a line of this width, so what is shown before the place stands above the blanks. Only the clause reads the place.
+fn print_below(rt: &HostRuntime, text: &[u8], place: usize, width: usize) -> io::Result<()>
+    requires { width ≡ columns (take place text.now) + 1 }
+{
     let shown = Shown { text };
-    let width = caret_width(place);
     println!(rt; "    {shown}")?;
     println!(rt; "    {:>width$}", '^')
 }
@@ -85,10 +93,23 @@ impl fmt::Display for Row<'_> {
 
 // In how many of a box's sheets a sentence is true, and in which.
 pub fn print_set(rt: &HostRuntime, set: &SheetSet, all: u16) -> io::Result<()> {
-    let count = set.count();
-    print!(rt; "  true in {count} of {all} sheets")?;
+    print_count(rt, set, set.count(), all)?;
     let sheets = members(rt.alloc(), set)?;
-    print_rows(rt, sheets.as_slice())
+    print_members(rt, set, sheets.as_slice())
+}
+
+// Only the clause reads the set.
+fn print_count(rt: &HostRuntime, set: &SheetSet, count: u16, all: u16) -> io::Result<()>
+    requires { count ≡ count_of (mem set.now) 256 }
+{
+    print!(rt; "  true in {count} of {all} sheets")
+}
+
+// Only the clause reads the set.
+fn print_members(rt: &HostRuntime, set: &SheetSet, sheets: &[u16]) -> io::Result<()>
+    requires { sheets.now ≡ passing (mem set.now) 256 }
+{
+    print_rows(rt, sheets)
 }
 
 fn print_rows(rt: &HostRuntime, sheets: &[u16]) -> io::Result<()> {
