@@ -2,7 +2,7 @@
 ghost use Rattle.std.specs.Prelude.{◌≡◌};
 ghost use Rattle.sentences.specs.Faults.{sentence_refusal, list_refusal};
 
-use sentences::faults::{ListFault, ListKind, Refusal, Returned, SentenceFault};
+use sentences::faults::{ListFault, Refusal, Returned, SentenceFault};
 use std::fmt;
 
 // A refusal with its reason and with what it hands back.
@@ -53,7 +53,7 @@ fn write_returned<W: fmt::Write>(f: &mut fmt::Formatter<W>, returned: Returned) 
     match returned {
         Returned::Place(place) => write!(f, "place {place}"),
         Returned::Index(index) => write!(f, "index {index}"),
-        Returned::Kind(kind) => f.write_str(kind_name(kind)),
+        Returned::Kind(kind) => f.write_str(kind.word()),
     }
 }
 
@@ -72,13 +72,5 @@ fn list_reason(fault: ListFault) -> &'static str {
         ListFault::BadPair(_) => "a pair that reaches past the block or into the pair before it",
         ListFault::BadName(_) => "a name that is misspelled or was there before",
         ListFault::Sentence(_, inner) => sentence_reason(inner),
-    }
-}
-
-fn kind_name(kind: ListKind) -> &'static str {
-    match kind {
-        ListKind::Names => "names",
-        ListKind::HouseRules => "house rules",
-        ListKind::Secrets => "secrets",
     }
 }
