@@ -1,4 +1,9 @@
 // Lists of pieces as the library takes them, and what it answers to them.
+ghost use Rattle.std.specs.Prelude.{◌≡◌};
+ghost use Rattle.sentences.specs.Lists.{sets_read};
+ghost use Rattle.sentences.specs.Naming.{words};
+ghost use Rattle.cases.specs.Answers.{counted, expected_answer, list_answer};
+
 use super::answers::Answer;
 use anyhow::anyhow;
 use sentences::cuts::{Cut, CutList};
@@ -27,7 +32,10 @@ impl Pieces {
         Ok(Pieces { block, cuts })
     }
 
-    pub fn list(&self) -> CutList<'_> {
+    pub fn list(&self) -> CutList<'_>
+        ensures block { result.block.now ≡ self.now.block.items }
+        ensures cuts { result.cuts.now ≡ self.now.cuts.items }
+    {
         CutList {
             block: self.block.as_slice(),
             cuts: self.cuts.as_slice(),
@@ -44,7 +52,9 @@ pub fn names_of(heap: Global, names: &[&str]) -> anyhow::Result<Names> {
 }
 
 // The library's answer to the list as one of that kind.
-pub fn read_list(kind: ListKind, names: &Names, list: &CutList) -> Answer {
+pub fn read_list(kind: ListKind, names: &Names, list: &CutList) -> Answer
+    ensures { result ≡ list_answer (words names.now) kind list.now }
+{
     match kind {
         ListKind::Names => match Names::parse(list) {
             Ok(names) => Answer::Accepted(names.count()),
@@ -55,7 +65,9 @@ pub fn read_list(kind: ListKind, names: &Names, list: &CutList) -> Answer {
     }
 }
 
-fn of_sentences(read: Result<SentenceList, ListFault>) -> Answer {
+fn of_sentences(read: Result<SentenceList, ListFault>) -> Answer
+    ensures { result ≡ counted (sets_read read) }
+{
     match read {
         Ok(list) => Answer::Accepted(list.sets().len()),
         Err(fault) => Answer::Refused(fault.refusal()),
@@ -79,7 +91,9 @@ pub enum Expected {
 }
 
 impl Expected {
-    pub fn answer(self) -> Answer {
+    pub fn answer(self) -> Answer
+        ensures { result ≡ expected_answer self }
+    {
         match self {
             Expected::Accepted(count) => Answer::Accepted(count),
             Expected::BadCount(kind) => Answer::Refused(Refusal {
