@@ -1,8 +1,9 @@
 // Lists of pieces as the library takes them, and what it answers to them.
-ghost use Rattle.std.specs.Prelude.{◌≡◌};
+ghost use Rattle.std.specs.Prelude.{◌≡◌, IfOk, map};
 ghost use Rattle.sentences.specs.Lists.{sets_read};
 ghost use Rattle.sentences.specs.Naming.{words};
 ghost use Rattle.cases.specs.Answers.{counted, expected_answer, list_answer};
+ghost use Rattle.cases.specs.Held.{Holds};
 
 use super::answers::Answer;
 use anyhow::anyhow;
@@ -20,7 +21,9 @@ pub struct Pieces {
 }
 
 impl Pieces {
-    pub fn of(heap: Global, pieces: &[&str]) -> anyhow::Result<Pieces> {
+    pub fn of(heap: Global, pieces: &[&str]) -> anyhow::Result<Pieces>
+        ensures { IfOk result (λ r. Holds r.block.items r.cuts.items (map (λ p. p.now) pieces.now)) }
+    {
         let mut block = Vec::new(heap);
         let mut cuts = Vec::new(heap);
         for piece in pieces {
