@@ -46,7 +46,9 @@ impl Pieces {
     }
 }
 
-pub fn names_of(heap: Global, names: &[&str]) -> anyhow::Result<Names> {
+pub fn names_of(heap: Global, names: &[&str]) -> anyhow::Result<Names>
+    ensures { IfOk result (λ r. words r ≡ map (λ p. p.now) names.now) }
+{
     let pieces = Pieces::of(heap, names)?;
     match Names::parse(&pieces.list()) {
         Ok(names) => Ok(names),
