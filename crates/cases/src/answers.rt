@@ -1,6 +1,7 @@
 // What the library answers in a case.
-ghost use Rattle.std.specs.Prelude.{◌≡◌, None};
+ghost use Rattle.std.specs.Prelude.{◌≡◌, IfOk, None};
 ghost use Rattle.sentences.specs.declared.faults.Returned.TheVariants.{Place};
+ghost use Rattle.cases.specs.Readings.{AnswersReading, members_below};
 
 use sentences::faults::{ListKind, Refusal, Returned, SentenceFault};
 use sentences::reading::Meaning;
@@ -25,7 +26,9 @@ impl Answer {
     pub fn of_sentence(
         heap: Global,
         read: Result<Meaning, SentenceFault>,
-    ) -> Result<Answer, AllocError> {
+    ) -> Result<Answer, AllocError>
+        ensures { IfOk result (λ a. AnswersReading read a) }
+    {
         match read {
             Ok(meaning) => Ok(Answer::Meaning(members(heap, &meaning.sheets)?, meaning.tokens)),
             Err(fault) => Ok(Answer::Refused(fault.refusal())),
@@ -47,7 +50,9 @@ pub fn refused_at(number: u8, place: usize) -> Refusal
 }
 
 // The sheets of the set, in their order.
-fn members(heap: Global, set: &SheetSet) -> Result<Vec<u16>, AllocError> {
+fn members(heap: Global, set: &SheetSet) -> Result<Vec<u16>, AllocError>
+    ensures { IfOk result (λ v. v.items ≡ members_below set.now 256) }
+{
     let mut sheets = Vec::new(heap);
     for sheet in 0..256u16 {
         if set.has(sheet) {

@@ -1,4 +1,6 @@
 // In how many sheets a sentence is true, in boxes with one to eight names.
+ghost use Rattle.std.specs.Prelude.{◌≡◌, ◌+◌, ◌-◌, ◌^◌, ◌≤◌, IfOk, min};
+
 use super::answers::Answer;
 use super::lists::names_of;
 use super::tally::Tally;
@@ -55,7 +57,10 @@ const COUNT_CASES: &[CountCase] = &[
     },
 ];
 
-pub fn run(rt: &HostRuntime, tally: &mut Tally) -> anyhow::Result<()> {
+pub fn run(rt: &HostRuntime, tally: &mut Tally) -> anyhow::Result<()>
+    ensures cases { IfOk result (λ _. tally.new.cases ≡ min (tally.old.cases + 5) (2 ^ 64 - 1)) }
+    ensures wrong { tally.old.wrong ≤ tally.new.wrong }
+{
     for case in COUNT_CASES {
         let names = names_of(rt.alloc(), case.names)?;
         let got = match parse(&names, case.text) {

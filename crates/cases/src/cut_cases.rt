@@ -1,4 +1,6 @@
 // Cut lists whose pairs are written out.
+ghost use Rattle.std.specs.Prelude.{◌≡◌, ◌+◌, ◌-◌, ◌^◌, ◌≤◌, IfOk, min};
+
 use super::answers::Answer;
 use super::lists::{Expected, read_list};
 use super::tally::Tally;
@@ -199,7 +201,10 @@ const CUT_CASES: &[CutCase] = &[
     },
 ];
 
-pub fn run(rt: &HostRuntime, tally: &mut Tally, names: &Names) -> anyhow::Result<()> {
+pub fn run(rt: &HostRuntime, tally: &mut Tally, names: &Names) -> anyhow::Result<()>
+    ensures cases { IfOk result (λ _. tally.new.cases ≡ min (tally.old.cases + 32) (2 ^ 64 - 1)) }
+    ensures wrong { tally.old.wrong ≤ tally.new.wrong }
+{
     for case in CUT_CASES {
         let list = CutList {
             block: case.block,

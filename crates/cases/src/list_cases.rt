@@ -1,4 +1,6 @@
 // Lists of names, house rules and secrets, whose pieces follow one another.
+ghost use Rattle.std.specs.Prelude.{◌≡◌, ◌+◌, ◌-◌, ◌^◌, ◌≤◌, IfOk, min};
+
 use super::lists::{Expected, Pieces, read_list};
 use super::tally::Tally;
 use sentences::faults::ListKind;
@@ -273,7 +275,10 @@ const LIST_CASES: &[ListCase] = &[
     },
 ];
 
-pub fn run(rt: &HostRuntime, tally: &mut Tally, names: &Names) -> anyhow::Result<()> {
+pub fn run(rt: &HostRuntime, tally: &mut Tally, names: &Names) -> anyhow::Result<()>
+    ensures cases { IfOk result (λ _. tally.new.cases ≡ min (tally.old.cases + 28) (2 ^ 64 - 1)) }
+    ensures wrong { tally.old.wrong ≤ tally.new.wrong }
+{
     for case in LIST_CASES {
         let pieces = Pieces::of(rt.alloc(), case.pieces)?;
         let got = read_list(case.kind, names, &pieces.list());

@@ -1,4 +1,10 @@
 // Lists of pieces as the library takes them, and what it answers to them.
+ghost use Rattle.std.specs.Prelude.{◌≡◌, IfOk, map};
+ghost use Rattle.sentences.specs.Lists.{sets_read};
+ghost use Rattle.sentences.specs.Naming.{words};
+ghost use Rattle.cases.specs.Answers.{counted, expected_answer, list_answer};
+ghost use Rattle.cases.specs.Held.{Holds};
+
 use super::answers::Answer;
 use anyhow::anyhow;
 use sentences::cuts::{Cut, CutList};
@@ -15,7 +21,9 @@ pub struct Pieces {
 }
 
 impl Pieces {
-    pub fn of(heap: Global, pieces: &[&str]) -> anyhow::Result<Pieces> {
+    pub fn of(heap: Global, pieces: &[&str]) -> anyhow::Result<Pieces>
+        ensures { IfOk result (λ r. Holds r.block.items r.cuts.items (map (λ p. p.now) pieces.now)) }
+    {
         let mut block = Vec::new(heap);
         let mut cuts = Vec::new(heap);
         for piece in pieces {
@@ -27,7 +35,10 @@ impl Pieces {
         Ok(Pieces { block, cuts })
     }
 
-    pub fn list(&self) -> CutList<'_> {
+    pub fn list(&self) -> CutList<'_>
+        ensures block { result.block.now ≡ self.now.block.items }
+        ensures cuts { result.cuts.now ≡ self.now.cuts.items }
+    {
         CutList {
             block: self.block.as_slice(),
             cuts: self.cuts.as_slice(),
@@ -35,7 +46,9 @@ impl Pieces {
     }
 }
 
-pub fn names_of(heap: Global, names: &[&str]) -> anyhow::Result<Names> {
+pub fn names_of(heap: Global, names: &[&str]) -> anyhow::Result<Names>
+    ensures { IfOk result (λ r. words r ≡ map (λ p. p.now) names.now) }
+{
     let pieces = Pieces::of(heap, names)?;
     match Names::parse(&pieces.list()) {
         Ok(names) => Ok(names),
@@ -44,7 +57,9 @@ pub fn names_of(heap: Global, names: &[&str]) -> anyhow::Result<Names> {
 }
 
 // The library's answer to the list as one of that kind.
-pub fn read_list(kind: ListKind, names: &Names, list: &CutList) -> Answer {
+pub fn read_list(kind: ListKind, names: &Names, list: &CutList) -> Answer
+    ensures { result ≡ list_answer (words names.now) kind list.now }
+{
     match kind {
         ListKind::Names => match Names::parse(list) {
             Ok(names) => Answer::Accepted(names.count()),
@@ -55,7 +70,9 @@ pub fn read_list(kind: ListKind, names: &Names, list: &CutList) -> Answer {
     }
 }
 
-fn of_sentences(read: Result<SentenceList, ListFault>) -> Answer {
+fn of_sentences(read: Result<SentenceList, ListFault>) -> Answer
+    ensures { result ≡ counted (sets_read read) }
+{
     match read {
         Ok(list) => Answer::Accepted(list.sets().len()),
         Err(fault) => Answer::Refused(fault.refusal()),
@@ -79,7 +96,9 @@ pub enum Expected {
 }
 
 impl Expected {
-    pub fn answer(self) -> Answer {
+    pub fn answer(self) -> Answer
+        ensures { result ≡ expected_answer self }
+    {
         match self {
             Expected::Accepted(count) => Answer::Accepted(count),
             Expected::BadCount(kind) => Answer::Refused(Refusal {

@@ -1,4 +1,6 @@
 // Texts about as long as a sentence can be, read with the names full, late and sold.
+ghost use Rattle.std.specs.Prelude.{◌≡◌, ◌+◌, ◌-◌, ◌^◌, ◌≤◌, IfOk, min};
+
 use super::answers::{Answer, refused_at};
 use super::lists::{Expected, read_list};
 use super::tally::Tally;
@@ -156,7 +158,10 @@ const REFUSED_CASES: &[RefusedCase] = &[
     },
 ];
 
-pub fn run(rt: &HostRuntime, tally: &mut Tally, names: &Names) -> anyhow::Result<()> {
+pub fn run(rt: &HostRuntime, tally: &mut Tally, names: &Names) -> anyhow::Result<()>
+    ensures cases { IfOk result (λ _. tally.new.cases ≡ min (tally.old.cases + 10) (2 ^ 64 - 1)) }
+    ensures wrong { tally.old.wrong ≤ tally.new.wrong }
+{
     let heap = rt.alloc();
     for case in TRUE_CASES {
         let text = case.text.bytes(heap)?;
@@ -168,7 +173,10 @@ pub fn run(rt: &HostRuntime, tally: &mut Tally, names: &Names) -> anyhow::Result
     run_in_list(rt, tally, names)
 }
 
-fn run_refused(rt: &HostRuntime, tally: &mut Tally, names: &Names) -> anyhow::Result<()> {
+fn run_refused(rt: &HostRuntime, tally: &mut Tally, names: &Names) -> anyhow::Result<()>
+    ensures cases { IfOk result (λ _. tally.new.cases ≡ min (tally.old.cases + 5) (2 ^ 64 - 1)) }
+    ensures wrong { tally.old.wrong ≤ tally.new.wrong }
+{
     let heap = rt.alloc();
     for case in REFUSED_CASES {
         let text = case.text.bytes(heap)?;
@@ -180,7 +188,10 @@ fn run_refused(rt: &HostRuntime, tally: &mut Tally, names: &Names) -> anyhow::Re
 }
 
 // The second sentence of a list is too long.
-fn run_in_list(rt: &HostRuntime, tally: &mut Tally, names: &Names) -> anyhow::Result<()> {
+fn run_in_list(rt: &HostRuntime, tally: &mut Tally, names: &Names) -> anyhow::Result<()>
+    ensures cases { IfOk result (λ _. tally.new.cases ≡ min (tally.old.cases + 1) (2 ^ 64 - 1)) }
+    ensures wrong { tally.old.wrong ≤ tally.new.wrong }
+{
     let text = LongText {
         front: b' ',
         fronts: 0,

@@ -1,4 +1,6 @@
 // Texts that are written out, read with the names full, late and sold.
+ghost use Rattle.std.specs.Prelude.{◌≡◌, ◌+◌, ◌-◌, ◌^◌, ◌≤◌, IfOk, min};
+
 use super::answers::{Answer, refused_at};
 use super::tally::Tally;
 use sentences::names::Names;
@@ -281,7 +283,10 @@ const REFUSED_CASES: &[RefusedCase] = &[
     },
 ];
 
-pub fn run(rt: &HostRuntime, tally: &mut Tally, names: &Names) -> anyhow::Result<()> {
+pub fn run(rt: &HostRuntime, tally: &mut Tally, names: &Names) -> anyhow::Result<()>
+    ensures cases { IfOk result (λ _. tally.new.cases ≡ min (tally.old.cases + 50) (2 ^ 64 - 1)) }
+    ensures wrong { tally.old.wrong ≤ tally.new.wrong }
+{
     for case in TRUE_CASES {
         let expected = Answer::Meaning(case.sheets.to_vec(rt.alloc())?, case.tokens);
         check_text(rt, tally, names, case.text, &expected)?;
@@ -289,7 +294,10 @@ pub fn run(rt: &HostRuntime, tally: &mut Tally, names: &Names) -> anyhow::Result
     run_refused(rt, tally, names)
 }
 
-fn run_refused(rt: &HostRuntime, tally: &mut Tally, names: &Names) -> anyhow::Result<()> {
+fn run_refused(rt: &HostRuntime, tally: &mut Tally, names: &Names) -> anyhow::Result<()>
+    ensures cases { IfOk result (λ _. tally.new.cases ≡ min (tally.old.cases + 32) (2 ^ 64 - 1)) }
+    ensures wrong { tally.old.wrong ≤ tally.new.wrong }
+{
     for case in REFUSED_CASES {
         let expected = Answer::Refused(refused_at(case.number, case.place));
         check_text(rt, tally, names, case.text, &expected)?;
@@ -303,7 +311,10 @@ fn check_text(
     names: &Names,
     text: &[u8],
     expected: &Answer,
-) -> anyhow::Result<()> {
+) -> anyhow::Result<()>
+    ensures cases { IfOk result (λ _. tally.new.cases ≡ min (tally.old.cases + 1) (2 ^ 64 - 1)) }
+    ensures wrong { tally.old.wrong ≤ tally.new.wrong }
+{
     let heap = rt.alloc();
     let got = Answer::of_sentence(heap, parse(names, text))?;
     let escaped = text.escape_ascii();

@@ -28,6 +28,7 @@ impl Tally {
     ) -> io::Result<()>
         ensures cases { self.new.cases ≡ min (self.old.cases + 1) (2 ^ 64 - 1) }
         ensures wrong { self.old.wrong ≤ self.new.wrong }
+        ensures right { expected.now ≡ got.now → self.new.wrong ≡ self.old.wrong }
     {
         self.cases = self.cases.saturating_add(1);
         let is_right = expected == got;
