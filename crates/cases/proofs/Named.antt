@@ -16,12 +16,12 @@ unless_ok None ws next e = e
 naming_ok : (x : CutList) (ws : List Word) → Ok ws ≡ naming x → ws ≡ map (piece x.block.now) x.cuts.now
 unfolding naming pieces
 naming_ok x ws e =
-  let inner : Ok ws ≡ unless (at_name (first_bad_name (pieces x))) (Ok (pieces x)) = unless_ok (pairs_fault kind.Names 1 x) ws (unless (at_name (first_bad_name (pieces x))) (Ok (pieces x))) e in
-  let whole : Result (List Word) ListFault = Ok (pieces x) in
-  let same : Ok ws ≡ whole = unless_ok (at_name (first_bad_name (pieces x))) ws whole inner in
-  cc
+    let inner : Ok ws ≡ unless (at_name (first_bad_name (pieces x))) (Ok (pieces x)) = unless_ok (pairs_fault kind.Names 1 x) ws (unless (at_name (first_bad_name (pieces x))) (Ok (pieces x))) e in
+    let whole : Result (List Word) ListFault = Ok (pieces x) in
+    let same : Ok ws ≡ whole = unless_ok (at_name (first_bad_name (pieces x))) ws whole inner in
+    cc
 
 pub named_as : (x : CutList) (ws : List Word) (block : List ℕ) (cuts : List Cut) (texts : List (List ℕ)) → Ok ws ≡ naming x → x.block.now ≡ block → x.cuts.now ≡ cuts → Holds block cuts texts → ws ≡ texts
 named_as x ws block cuts texts e eb ec h =
-  let read : ws ≡ map (piece x.block.now) x.cuts.now = naming_ok x ws e in
-  read ∙ rw (eb, ec) h.pieces_are
+    let read : ws ≡ map (piece x.block.now) x.cuts.now = naming_ok x ws e in
+    read ∙ rw (eb, ec) h.pieces_are

@@ -3,7 +3,7 @@ ghost use Rattle.std.specs.Prelude.{◌≡◌, IfOk, None};
 ghost use Rattle.sentences.specs.declared.faults.Returned.TheVariants.{Place};
 ghost use Rattle.cases.specs.Readings.{AnswersReading, members_below};
 
-use sentences::faults::{ListKind, Refusal, Returned, SentenceFault};
+use sentences::faults::{Refusal, Returned, SentenceFault};
 use sentences::reading::Meaning;
 use sheets::SheetSet;
 use std::alloc::{AllocError, Global};
@@ -85,16 +85,8 @@ fn write_refusal<W: fmt::Write>(f: &mut fmt::Formatter<W>, refusal: &Refusal) ->
         Returned::Place(place) => write!(f, ", place {place}"),
         Returned::Index(index) => write!(f, ", index {index}"),
         Returned::Kind(kind) => {
-            let kind = kind_name(kind);
+            let kind = kind.word();
             write!(f, ", kind {kind}")
         }
-    }
-}
-
-fn kind_name(kind: ListKind) -> &'static str {
-    match kind {
-        ListKind::Names => "names",
-        ListKind::HouseRules => "house rules",
-        ListKind::Secrets => "secrets",
     }
 }
