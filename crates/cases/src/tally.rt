@@ -1,5 +1,5 @@
 // The count of the cases, and of those that come out wrong.
-ghost use Rattle.std.specs.Prelude.{◌≡◌, ◌+◌, ◌-◌, ◌^◌, ◌≤◌, min};
+ghost use Rattle.std.specs.Prelude.{◌≡◌, ◌+◌, ◌-◌, ◌^◌, ◌≤◌, if◌then◌else◌, min};
 
 use super::answers::Answer;
 use std::io;
@@ -29,6 +29,7 @@ impl Tally {
         ensures cases { self.new.cases ≡ min (self.old.cases + 1) (2 ^ 64 - 1) }
         ensures wrong { self.old.wrong ≤ self.new.wrong }
         ensures right { expected.now ≡ got.now → self.new.wrong ≡ self.old.wrong }
+        ensures counted { self.new.wrong ≡ (if ⟦<Answer as PartialEq>⟧.eq expected.now got.now then self.old.wrong else min (self.old.wrong + 1) (2 ^ 64 - 1)) }
     {
         self.cases = self.cases.saturating_add(1);
         let is_right = expected == got;
