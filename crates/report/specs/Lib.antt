@@ -1,3 +1,6 @@
 pub mod Labels
+pub mod Lines
 pub mod Pairs
 pub mod Passing
+pub mod PieceLists
+pub mod Reasons
