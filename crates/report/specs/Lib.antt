@@ -1,4 +1,7 @@
 pub mod Labels
+pub mod Lines
 pub mod Pairs
 pub mod Passing
 pub mod Printed
+pub mod PieceLists
+pub mod Reasons

@@ -1,7 +1,9 @@
 // The lines of an input file: a label, blanks, and the rest.
-ghost use Rattle.std.specs.Prelude.{◌≡◌, ℕ, ◌+◌, ◌<◌, ◌≤◌, length, take, Decides, MatchOption, ◌≢◌, slice_index};
+ghost use Rattle.std.specs.Prelude.{not, nat_eq, ◌≡◌, ℕ, ◌+◌, ◌<◌, ◌≤◌, length, take, Decides, MatchOption, ◌≢◌, slice_index};
 ghost use Rattle.report.specs.Labels.{label_name};
+ghost use Rattle.report.specs.Lines.{without_return as without_return_of, is_silent, Reads, Labelled};
 ghost use Rattle.std.specs.Iterator.{at_most};
+ghost use Rattle.std.specs.List.{position_or_len};
 
 use std::alloc::{AllocError, Global};
 
@@ -61,7 +63,9 @@ pub enum Line<'a> {
     UnknownLabel(&'a [u8]),
 }
 
-pub fn read_line(line: &[u8]) -> Line<'_> {
+pub fn read_line(line: &[u8]) -> Line<'_>
+    ensures { Reads (is_silent line.now) line.now result }
+{
     if line.is_empty() || line[0] == b'#' {
         return Line::Nothing;
     }
@@ -72,7 +76,9 @@ pub fn read_line(line: &[u8]) -> Line<'_> {
     line_of(label, rest)
 }
 
-fn line_of<'a>(label: &'a [u8], rest: &'a [u8]) -> Line<'a> {
+fn line_of<'a>(label: &'a [u8], rest: &'a [u8]) -> Line<'a>
+    ensures { Labelled label.now rest.now result }
+{
     if label == b"names".as_slice() {
         return Line::Names(rest);
     }
@@ -90,7 +96,10 @@ pub struct Split<'a> {
 }
 
 impl<'a> Split<'a> {
-    pub fn new(text: &'a [u8], at: u8) -> Split<'a> {
+    pub fn new(text: &'a [u8], at: u8) -> Split<'a>
+        ensures whole { result.rest.now ≡ text.now }
+        ensures parted { result.at ≡ at }
+    {
         Split { rest: text, at }
     }
 }
@@ -130,6 +139,7 @@ pub fn words(heap: Global, text: &[u8]) -> Result<Vec<&[u8]>, AllocError> {
 pub fn without_return(line: &[u8]) -> &[u8]
     ensures front { result.now ≡ take (length result.now) line.now }
     ensures most { length line.now ≤ length result.now + 1 }
+    ensures is { result.now ≡ without_return_of line.now }
 {
     match line.strip_suffix(b"\r") {
         Some(front) => front,
@@ -142,6 +152,7 @@ fn find(text: &[u8], byte: u8) -> usize
     ensures within { result ≤ length text.now }
     ensures before { (k : ℕ) → k < result → slice_index text.now k ≢ byte }
     ensures found { result < length text.now → slice_index text.now result ≡ byte }
+    ensures first { result ≡ position_or_len (λ b. nat_eq b byte) text.now }
 {
     for (place, found) in text.iter().enumerate() {
         if *found == byte {
@@ -156,6 +167,7 @@ fn leading_blanks(text: &[u8]) -> usize
     ensures within { result ≤ length text.now }
     ensures before { (k : ℕ) → k < result → slice_index text.now k ≡ 32 }
     ensures stops { result < length text.now → slice_index text.now result ≢ 32 }
+    ensures first { result ≡ position_or_len (λ b. not (nat_eq b 32)) text.now }
 {
     for (place, byte) in text.iter().enumerate() {
         if *byte != b' ' {

@@ -1,6 +1,11 @@
 // Cut lists that are put together piece by piece, and what they are read as.
-ghost use Rattle.std.specs.Prelude.{◌≡◌, ◌+◌, ◌-◌, ◌^◌, ◌<◌, min, true, false, ◌⊎◌, [], ◌∷◌, ◌++◌, length, is_ok, IfOk, if◌then◌else◌, vec_len, MatchResult, OnErr, OnOk};
+ghost use Rattle.std.specs.Prelude.{◌≡◌, ◌+◌, ◌-◌, ◌^◌, ◌<◌, min, true, false, ◌⊎◌, [], ◌∷◌, ◌++◌, length, is_ok, IfErr, IfOk, if◌then◌else◌, vec_len, MatchResult, OnErr, OnOk};
 ghost use Rattle.report.specs.Pairs.{fits};
+ghost use Rattle.report.specs.declared.lists.Unread.TheVariants.{Refused};
+ghost use Rattle.report.specs.PieceLists.{cut_list, if_whole, words_read, sets_read};
+ghost use Rattle.sentences.specs.Lists.{read_list};
+ghost use Rattle.sentences.specs.Naming.{naming, words};
+ghost use Rattle.sentences.specs.declared.faults.ListKind.TheVariants.{HouseRules, Secrets};
 
 use super::refusals::ExplainedRefusal;
 use sentences::cuts::{Cut, CutList};
@@ -27,6 +32,8 @@ pub enum Unread {
 }
 
 impl From<ListFault> for Unread {
+    ghost from_gives = { λ fault why. why ≡ Refused fault };
+
     fn from(fault: ListFault) -> Unread {
         Unread::Refused(fault)
     }
@@ -80,25 +87,29 @@ impl Pieces {
     }
 
     pub fn names(&self) -> Result<Names, Unread>
-        ensures { 0 < self.now.left_out → is_ok result ≡ false }
+        ensures left_out { 0 < self.now.left_out → is_ok result ≡ false }
+        ensures read { words_read result ≡ if_whole self.now.left_out (naming (cut_list self.now.block.items self.now.cuts.items)) }
     {
         Ok(Names::parse(&self.list()?)?)
     }
 
     pub fn house_rules(&self, names: &Names) -> Result<SentenceList, Unread>
-        ensures { 0 < self.now.left_out → is_ok result ≡ false }
+        ensures left_out { 0 < self.now.left_out → is_ok result ≡ false }
+        ensures read { sets_read result ≡ if_whole self.now.left_out (read_list (words names.now) HouseRules 0 (cut_list self.now.block.items self.now.cuts.items)) }
     {
         Ok(SentenceList::house_rules(names, &self.list()?)?)
     }
 
     pub fn secrets(&self, names: &Names) -> Result<SentenceList, Unread>
-        ensures { 0 < self.now.left_out → is_ok result ≡ false }
+        ensures left_out { 0 < self.now.left_out → is_ok result ≡ false }
+        ensures read { sets_read result ≡ if_whole self.now.left_out (read_list (words names.now) Secrets 1 (cut_list self.now.block.items self.now.cuts.items)) }
     {
         Ok(SentenceList::secrets(names, &self.list()?)?)
     }
 
     fn list(&self) -> Result<CutList<'_>, Unread>
-        ensures { MatchResult result (λ x. (self.now.left_out ≡ 0) × (x.block.now ≡ self.now.block.items) × (x.cuts.now ≡ self.now.cuts.items)) (λ _. 0 < self.now.left_out) }
+        ensures parts { MatchResult result (λ x. (self.now.left_out ≡ 0) × (x.block.now ≡ self.now.block.items) × (x.cuts.now ≡ self.now.cuts.items)) (λ _. 0 < self.now.left_out) }
+        ensures too_large { IfErr result (λ why. why ≡ Unread.TooLarge) }
     {
         if self.left_out > 0 {
             return Err(Unread::TooLarge);

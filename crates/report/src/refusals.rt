@@ -1,6 +1,7 @@
 // What the refusals say, in plain words.
 ghost use Rattle.std.specs.Prelude.{◌≡◌};
 ghost use Rattle.sentences.specs.Faults.{sentence_refusal, list_refusal};
+ghost use Rattle.report.specs.Reasons.{sentence_reason as sentence_reason_of, list_reason as list_reason_of};
 
 use sentences::faults::{ListFault, Refusal, Returned, SentenceFault};
 use std::fmt;
@@ -14,7 +15,8 @@ pub struct ExplainedRefusal {
 
 impl ExplainedRefusal {
     pub fn of_sentence(fault: SentenceFault) -> ExplainedRefusal
-        ensures { result.refusal ≡ sentence_refusal fault }
+        ensures refusal { result.refusal ≡ sentence_refusal fault }
+        ensures reason { result.reason.now ≡ sentence_reason_of fault }
     {
         ExplainedRefusal {
             refusal: fault.refusal(),
@@ -23,7 +25,8 @@ impl ExplainedRefusal {
     }
 
     pub fn of_list(fault: ListFault) -> ExplainedRefusal
-        ensures { result.refusal ≡ list_refusal fault }
+        ensures refusal { result.refusal ≡ list_refusal fault }
+        ensures reason { result.reason.now ≡ list_reason_of fault }
     {
         ExplainedRefusal {
             refusal: fault.refusal(),
@@ -57,7 +60,9 @@ fn write_returned<W: fmt::Write>(f: &mut fmt::Formatter<W>, returned: Returned) 
     }
 }
 
-fn sentence_reason(fault: SentenceFault) -> &'static str {
+fn sentence_reason(fault: SentenceFault) -> &'static str
+    ensures { result.now ≡ sentence_reason_of fault }
+{
     match fault {
         SentenceFault::TooLong => "the text has more than 256 bytes",
         SentenceFault::Stray(_) => "a byte that belongs to no token",
@@ -66,7 +71,9 @@ fn sentence_reason(fault: SentenceFault) -> &'static str {
     }
 }
 
-fn list_reason(fault: ListFault) -> &'static str {
+fn list_reason(fault: ListFault) -> &'static str
+    ensures { result.now ≡ list_reason_of fault }
+{
     match fault {
         ListFault::Count(_) => "too few or too many items",
         ListFault::BadPair(_) => "a pair that reaches past the block or into the pair before it",

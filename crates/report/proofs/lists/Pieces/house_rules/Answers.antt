@@ -1,0 +1,22 @@
+use Rattle.std.proofs.Common.{Err, ap, sym, ◌∙◌}
+use Rattle.std.proofs.lemmas.Result.{err_from_is_err_and}
+use Rattle.sentences.specs.Naming.{words}
+use Rattle.sentences.specs.declared.faults.ListKind.TheVariants.{HouseRules}
+use Rattle.report.specs.PieceLists.{or_refused}
+use Rattle.report.proofs.PieceLists.{left_out_too_large, whole_or_refused, read_list_by_parts}
+use Rattle.report.proofs.lists.Pieces.house_rules.Goals as goal
+
+pub returns-in_err-list-clause-read : goal.returns-in_err-list-clause-read
+returns-in_err-list-clause-read c =
+    let p = err_from_is_err_and c.from_residual.result c.from_residual.ensures.1 in
+    rw (p.1, p.2) (ap Err c.in_err-list.ensures.too_large ∙ sym (left_out_too_large c.args.self.now.left_out _ c.in_err-list.ensures.parts))
+
+pub returns-in_err-house_rules-clause-read : goal.returns-in_err-house_rules-clause-read
+returns-in_err-house_rules-clause-read c =
+    let p = err_from_is_err_and c.from_residual-in_err-house_rules.result c.from_residual-in_err-house_rules.ensures.1 in
+    rw (p.1, p.2) (ap or_refused (c.in_err-house_rules.ensures ∙ read_list_by_parts c.in_ok-list.field-0 c.in_ok-list.ensures.parts.1 c.in_ok-list.ensures.parts.2 (words c.args.names.now) HouseRules 0) ∙ sym (whole_or_refused c.args.self.now.left_out _ c.in_ok-list.ensures.parts.0))
+
+pub returns-clause-read : goal.returns-clause-read
+returns-clause-read c =
+    ap or_refused (c.in_ok-house_rules.ensures ∙ read_list_by_parts c.in_ok-list.field-0 c.in_ok-list.ensures.parts.1 c.in_ok-list.ensures.parts.2 (words c.args.names.now) HouseRules 0)
+    ∙ sym (whole_or_refused c.args.self.now.left_out _ c.in_ok-list.ensures.parts.0)
