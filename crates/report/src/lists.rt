@@ -1,6 +1,6 @@
 // Cut lists that are put together piece by piece, and what they are read as.
 ghost use Rattle.std.specs.Prelude.{◌≡◌, ◌+◌, ◌-◌, ◌^◌, ◌<◌, min, true, false, ◌⊎◌, [], ◌∷◌, ◌++◌, length, is_ok, IfErr, IfOk, if◌then◌else◌, vec_len, MatchResult, OnErr, OnOk};
-ghost use Rattle.report.specs.Pairs.{fits};
+ghost use Rattle.pieces.specs.Pairs.{fits};
 ghost use Rattle.report.specs.declared.lists.Unread.TheVariants.{Refused};
 ghost use Rattle.report.specs.PieceLists.{cut_list, if_whole, words_read, sets_read};
 ghost use Rattle.sentences.specs.Lists.{read_list};
