@@ -1,3 +1,4 @@
 mod Passings
 mod PieceLists
 mod Places
+mod Words

@@ -1,7 +1,7 @@
 -- The lines of an input file, and what each is taken apart into.
-use Rattle.std.specs.Prelude.{◌≡◌, ◌≢◌, ℕ, ◌-◌, Bool, true, false, cond, ◌||◌, not, List, length, take, drop, [], ◌∷◌, codes, nat_eq, slice_index}
+use Rattle.std.specs.Prelude.{◌≡◌, ◌≢◌, ℕ, ◌-◌, Bool, true, false, cond, ◌||◌, not, List, length, take, drop, [], ◌∷◌, codes, nat_eq, nat_lt, slice_index}
 use Rattle.std.specs.Cmp.Lexicographic.{pointwise}
-use Rattle.std.specs.List.{position_or_len, before_first}
+use Rattle.std.specs.List.{position_or_len, before_first, slice_split, filter}
 use Rattle.report.specs.declared.input.Label.{Label}
 use Rattle.report.specs.declared.input.Line.{Line}
 use Rattle.report.specs.declared.input.Line.TheVariants.{Nothing, Names, Sentence, UnknownLabel}
@@ -38,3 +38,7 @@ Labelled word rest (UnknownLabel unknown) = (unknown.now ≡ word) × (word ≢ 
 abbrev pub Reads : Bool → List ℕ → Line → Type 0
 Reads true xs line = line ≡ Nothing
 Reads false xs line = Labelled (label_word xs) (after_label xs) line
+
+-- the words of a text: its parts between the blanks, but for the empty ones
+abbrev pub words_of : List ℕ → List (List ℕ)
+words_of xs = filter (λ word. nat_lt 0 (length word)) (slice_split (λ b. nat_eq b 32) xs)

@@ -1,9 +1,9 @@
 // The lines of an input file: a label, blanks, and the rest.
-ghost use Rattle.std.specs.Prelude.{not, nat_eq, ◌≡◌, ℕ, ◌+◌, ◌<◌, ◌≤◌, length, take, Decides, MatchOption, ◌≢◌, slice_index};
+ghost use Rattle.std.specs.Prelude.{[], map, IfOk, not, nat_eq, ◌≡◌, ℕ, ◌+◌, ◌<◌, ◌≤◌, length, take, Decides, MatchOption, ◌≢◌, slice_index};
 ghost use Rattle.report.specs.Labels.{label_name};
-ghost use Rattle.report.specs.Lines.{without_return as without_return_of, is_silent, Reads, Labelled};
+ghost use Rattle.report.specs.Lines.{without_return as without_return_of, is_silent, words_of, Reads, Labelled};
 ghost use Rattle.std.specs.Iterator.{at_most};
-ghost use Rattle.std.specs.List.{position_or_len};
+ghost use Rattle.std.specs.List.{position_or_len, before_first, after_first};
 
 use std::alloc::{AllocError, Global};
 
@@ -109,6 +109,8 @@ impl<'a> Iterator for Split<'a> {
 
     ghost remaining = { λ s. at_most (length s.rest.now) };
 
+    ghost next_gives = { λ s r t. MatchOption r (s.rest.now ≡ []) (λ x. (x.now ≡ before_first (λ b. nat_eq b s.at) s.rest.now) × (t.rest.now ≡ after_first (λ b. nat_eq b s.at) s.rest.now) × (t.at ≡ s.at)) };
+
     fn next(&mut self) -> Option<&'a [u8]> {
         let text = self.rest;
         if text.is_empty() {
@@ -125,7 +127,9 @@ impl<'a> Iterator for Split<'a> {
 }
 
 // The words of a text, which blanks part.
-pub fn words(heap: Global, text: &[u8]) -> Result<Vec<&[u8]>, AllocError> {
+pub fn words(heap: Global, text: &[u8]) -> Result<Vec<&[u8]>, AllocError>
+    ensures { IfOk result (λ words. map (λ word. word.now) words.items ≡ words_of text.now) }
+{
     let mut words = Vec::new(heap);
     for word in Split::new(text, b' ') {
         if !word.is_empty() {
