@@ -1,5 +1,5 @@
 -- Names that were read from a list are its pieces.
-use Rattle.std.proofs.Common.{◌≡◌, ℕ, List, map, Option, Some, None, Result, Ok, Err, ap, ◌∙◌}
+use Rattle.std.proofs.Common.{◌≡◌, ℕ, List, map, Option, Some, None, Result, Ok, ◌∙◌}
 use Rattle.sentences.specs.declared.cuts.Cut.{Cut}
 use Rattle.sentences.specs.declared.cuts.CutList.{CutList}
 use Rattle.sentences.specs.declared.faults.ListFault.{ListFault}

@@ -1,7 +1,5 @@
 -- What is answered in a case, by what the library's definitions give, and what is expected.
-use Rattle.std.specs.Prelude.{◌≡◌, ℕ, zero, suc, cond, List, [], ◌∷◌, ◌++◌, length, Some, None, Ok, Err, Result}
-use Rattle.sheets.specs.declared.SheetSet.{SheetSet}
-use Rattle.sheets.specs.Sets.{mem}
+use Rattle.std.specs.Prelude.{List, length, Ok, Err, Result}
 use Rattle.sentences.specs.declared.cuts.CutList.{CutList}
 use Rattle.sentences.specs.declared.faults.ListFault.{ListFault}
 use Rattle.sentences.specs.declared.faults.ListKind.{ListKind}

@@ -1,4 +1,4 @@
-use Rattle.std.proofs.Common.{rules, List, ℕ, Bor, arith, ◌≡◌, length, ap, ◌∙◌, refl}
+use Rattle.std.proofs.Common.{rules, List, ℕ, Bor, ◌≡◌, length}
 use Rattle.cases.proofs.Held.{holds_more, texts_more}
 use Rattle.cases.proofs.lists.Pieces.of.Goals as goal
 

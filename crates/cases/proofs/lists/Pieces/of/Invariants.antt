@@ -1,4 +1,4 @@
-use Rattle.std.proofs.Common.{◌≡◌, vec_items, map, take}
+use Rattle.std.proofs.Common.{vec_items, map, take}
 use Rattle.cases.specs.Held.{Holds}
 use Rattle.cases.proofs.lists.Pieces.of.Given as goal
 
