@@ -2,3 +2,4 @@ pub mod Digits
 mod Words
 mod Tables
 pub mod Laws
+mod Passings

@@ -1,5 +1,9 @@
 -- A set as four words of 64 digits.
-use Rattle.std.proofs.Common.{◌≡◌, ℕ, zero, suc, ◌+◌, ◌*◌, ◌/◌, ◌%◌, ◌^◌, ◌<◌, Bool, List, [], ◌∷◌, length, get_or, sym, refl, ap, ◌∙◌, subst, ap₂, le_of_suc-le-suc, not-suc-le-zero, zero-add, arith, ext_get_or}
+use denote.Param.Members.{Mut}
+use Rattle.std.specs.Fn.{Called}
+use Rattle.std.specs.Array.{IsFromFnResult, IsFromFnResultFrom}
+use Rattle.std.proofs.lemmas.Bool.{cases_eq}
+use Rattle.std.proofs.Common.{◌≡◌, ℕ, zero, suc, ◌+◌, ◌*◌, ◌/◌, ◌%◌, ◌^◌, ◌<◌, ◌≤◌, ⊎_elim, Bool, List, length, get_or, sym, refl, ap, ◌∙◌, subst, ap₂, le_of_suc-le-suc, not-suc-le-zero, zero-add, arith, ext_get_or}
 use lib.Count.{ones}
 use Rattle.sheets.specs.declared.SheetSet.{SheetSet}
 use Rattle.sheets.specs.Sets.{bit, mem, digits, set_of, count}
@@ -53,23 +57,32 @@ by_members x f formed e =
     digits_is 64 (get_or x.words q 0) (λ k. f (64 * q + k)) (formed.fits q l)
     (λ k m. sym (mem_word x q k m) ∙ e (64 * q + k) (omega arith)))
 
+-- ---- words that a closure makes, called at each index
+
+module _ {F : Type 0} (g : Mut F (ℕ × Unit {0}) ℕ) {f : F} (word : ℕ → ℕ) (calls : (q w : ℕ) (f' : F) → Called g f (q, tt) w f' → (f' ≡ f) × (w ≡ word q)) where
+  each_word : (ws : List ℕ) (from n : ℕ) → IsFromFnResultFrom g f ws from n → (q : ℕ) → from ≤ q → q < from + n → get_or ws q 0 ≡ word q
+  each_word ws from zero made q l m = absurd (omega arith)
+  each_word ws from (suc n) (f', w, at, call, rest) q l m =
+      let here = calls from w f' call in
+      ⊎_elim
+      (λ e. subst (λ (q : ℕ). get_or ws q 0 ≡ word q) (sym e) (at.1 0 ∙ here.1))
+      (λ ne. each_word ws (from + 1) n (subst (λ (f : F). IsFromFnResultFrom g f ws (from + 1) n) here.0 rest) q (omega arith) (omega arith))
+      (cases_eq q from)
+
 -- an operation on words that is t at each digit makes the set that is t at each sheet
 pub word_by_word : (op : ℕ → ℕ → ℕ) (t : Bool → Bool → Bool)
     → ((x y : ℕ) → x < 2 ^ 64 → y < 2 ^ 64 → op x y < 2 ^ 64)
     → ((x y k : ℕ) → x < 2 ^ 64 → y < 2 ^ 64 → k < 64 → bit (op x y) k ≡ t (bit x k) (bit y k))
     → (a b : SheetSet) → Formed a → Formed b
-    → record {
-      words = op (get_or a.words 0 0) (get_or b.words 0 0) ∷ op (get_or a.words 1 0) (get_or b.words 1 0)
-          ∷ op (get_or a.words 2 0) (get_or b.words 2 0) ∷ op (get_or a.words 3 0) (get_or b.words 3 0) ∷ [];
-    }
-    ≡ set_of (λ s. t (mem a s) (mem b s))
+    → {F : Type 0} (g : Mut F (ℕ × Unit {0}) ℕ) {f : F}
+    → ((q w : ℕ) (f' : F) → Called g f (q, tt) w f' → (f' ≡ f) × (w ≡ op (get_or a.words q 0) (get_or b.words q 0)))
+    → (ws : List ℕ) → IsFromFnResult g f ws 4 → record { words = ws } ≡ set_of (λ s. t (mem a s) (mem b s))
 unfolding mem
-word_by_word op t fits law a b fa fb =
+word_by_word op t fits law a b fa fb g calls ws made =
     let word : ℕ → ℕ = λ q. op (get_or a.words q 0) (get_or b.words q 0) in
-    let x : SheetSet = record { words = word 0 ∷ word 1 ∷ word 2 ∷ word 3 ∷ [] } in
-    let at : (q : ℕ) → q < 4 → word q ≡ get_or x.words q 0 = below_four (λ q. word q ≡ get_or x.words q 0) refl refl refl refl in
-    by_members x (λ s. t (mem a s) (mem b s))
-    (record { four = refl; fits = λ q l. subst (λ (w : ℕ). w < 2 ^ 64) (at q l) (fits _ _ (fa.fits q l) (fb.fits q l)) })
+    let at : (q : ℕ) → q < 4 → word q ≡ get_or ws q 0 = λ q l. sym (each_word g word calls ws 0 4 made.each q (omega arith) (omega arith)) in
+    by_members (record { words = ws }) (λ s. t (mem a s) (mem b s))
+    (record { four = made.long; fits = λ q l. subst (λ (w : ℕ). w < 2 ^ 64) (at q l) (fits _ _ (fa.fits q l) (fb.fits q l)) })
     (λ s h.
     let l : s / 64 < 4 = omega arith in
     ap (λ (w : ℕ). bit w (s % 64)) (sym (at (s / 64) l)) ∙ law _ _ (s % 64) (fa.fits (s / 64) l) (fb.fits (s / 64) l) (omega arith))

@@ -1,12 +1,16 @@
 // Sets of sheets, each held in four words of 64 bits: sheet s is a member when bit s % 64 of word s / 64 is set.
 #![tactic(auto)]
 
-ghost use Rattle.std.specs.Prelude.{◌≡◌, ◌^◌, ◌≤◌, false, not, Decides, count_ones, nat_lt};
+ghost use Rattle.std.specs.Prelude.{◌≡◌, ◌^◌, ◌≤◌, false, not, Decides, IfOk, count_ones, nat_lt};
 ghost use Rattle.sheets.specs.Sets.{bit, mem, set_of, every, any, SameMembers};
 ghost use Rattle.sheets.specs.Sets.{meet as meet_of, union as union_of, minus as minus_of, outside as outside_of};
 ghost use Rattle.sheets.specs.Sets.{count as count_of, within as within_of, within_one, within_union};
+ghost use Rattle.sheets.specs.Passing.{passing};
 
-#[derive(Clone, Copy)]
+use std::alloc::{AllocError, Global};
+use std::array;
+
+#[derive(Clone, Copy, PartialEq, Eq, Debug)]
 pub struct SheetSet {
     words: [u64; 4],
 }
@@ -83,11 +87,8 @@ impl SheetSet {
     pub fn below(names: usize) -> SheetSet
         ensures { result ≡ set_of (λ s. nat_lt s (2 ^ names)) }
     {
-        if names > 8 {
-            return SheetSet { words: BELOW[8] };
-        }
         SheetSet {
-            words: BELOW[names],
+            words: BELOW[names.min(8)],
         }
     }
 
@@ -95,6 +96,7 @@ impl SheetSet {
     pub fn fact(index: usize) -> SheetSet
         ensures { result ≡ set_of (λ s. bit s index) }
     {
+        // The proof compares the rows of the constant at an index, and did not find one through `get`.
         if index >= 8 {
             return SheetSet::empty();
         }
@@ -116,12 +118,7 @@ impl SheetSet {
         ensures { result ≡ meet_of self.now other.now }
     {
         SheetSet {
-            words: [
-                self.words[0] & other.words[0],
-                self.words[1] & other.words[1],
-                self.words[2] & other.words[2],
-                self.words[3] & other.words[3],
-            ],
+            words: array::from_fn(|index| self.words[index] & other.words[index]),
         }
     }
 
@@ -130,12 +127,7 @@ impl SheetSet {
         ensures { result ≡ union_of self.now other.now }
     {
         SheetSet {
-            words: [
-                self.words[0] | other.words[0],
-                self.words[1] | other.words[1],
-                self.words[2] | other.words[2],
-                self.words[3] | other.words[3],
-            ],
+            words: array::from_fn(|index| self.words[index] | other.words[index]),
         }
     }
 
@@ -144,12 +136,7 @@ impl SheetSet {
         ensures { result ≡ minus_of self.now other.now }
     {
         SheetSet {
-            words: [
-                self.words[0] & !other.words[0],
-                self.words[1] & !other.words[1],
-                self.words[2] & !other.words[2],
-                self.words[3] & !other.words[3],
-            ],
+            words: array::from_fn(|index| self.words[index] & !other.words[index]),
         }
     }
 
@@ -158,12 +145,7 @@ impl SheetSet {
         ensures { result ≡ outside_of self.now }
     {
         SheetSet {
-            words: [
-                !self.words[0],
-                !self.words[1],
-                !self.words[2],
-                !self.words[3],
-            ],
+            words: array::from_fn(|index| !self.words[index]),
         }
     }
 
@@ -171,10 +153,18 @@ impl SheetSet {
     pub fn count(&self) -> u16
         ensures { result ≡ count_of (mem self.now) 256 }
     {
+        // A sum over `iter()` would ask that it fits, and the proof does not know that the words that it reads have 64 bits.
         ones_of(self.words[0])
             + ones_of(self.words[1])
             + ones_of(self.words[2])
             + ones_of(self.words[3])
+    }
+
+    // The members, in their order.
+    pub fn members(&self, heap: Global) -> Result<Vec<u16>, AllocError>
+        ensures { IfOk result (λ sheets. sheets.items ≡ passing (mem self.now) 256) }
+    {
+        (0..256u16).filter(|sheet| self.has(*sheet)).collect(heap)
     }
 
     // Whether the set has no members.
@@ -188,6 +178,7 @@ impl SheetSet {
     pub fn same(&self, other: &SheetSet) -> bool
         ensures { Decides result (SameMembers self.now other.now) }
     {
+        // `self == other` reads no word, and of a word that is not read no proof knows that it has 64 bits.
         self.minus(other).is_empty() && other.minus(self).is_empty()
     }
 
@@ -195,18 +186,14 @@ impl SheetSet {
     pub fn within(&self, other: &SheetSet) -> bool
         ensures { result ≡ within_of self.now other.now }
     {
-        for sheet in 0..256u16 {
-            if self.has(sheet) && !other.has(sheet) {
-                return false;
-            }
-        }
-        true
+        (0..256u16).all(|sheet| !self.has(sheet) || other.has(sheet))
     }
 
     // Whether one of the sets has every member of this one.
     pub fn within_one(&self, sets: &[SheetSet]) -> bool
         ensures { result ≡ within_one self.now sets.now }
     {
+        // A loop over the secrets: its invariant says that none before contains this set.
         for set in sets {
             if self.within(set) {
                 return true;
@@ -219,12 +206,7 @@ impl SheetSet {
     pub fn within_union(&self, sets: &[SheetSet]) -> bool
         ensures { result ≡ within_union self.now sets.now }
     {
-        for sheet in 0..256u16 {
-            if self.has(sheet) && !one_has(sets, sheet) {
-                return false;
-            }
-        }
-        true
+        (0..256u16).all(|sheet| !self.has(sheet) || one_has(sets, sheet))
     }
 }
 
@@ -232,12 +214,7 @@ impl SheetSet {
 fn one_has(sets: &[SheetSet], sheet: u16) -> bool
     ensures { result ≡ any (λ x. mem x sheet) sets.now }
 {
-    for set in sets {
-        if set.has(sheet) {
-            return true;
-        }
-    }
-    false
+    sets.iter().any(|set| set.has(sheet))
 }
 
 // How many bits of the word are set.
@@ -246,4 +223,20 @@ fn ones_of(word: u64) -> u16
     ensures few { result ≤ 64 }
 {
     word.count_ones() as u16
+}
+
+#[cfg(test)]
+mod tests {
+    use super::*;
+
+    // Fact 7 is true in the upper half of the sheets, and one sheet has all eight facts.
+    #[test]
+    fn lists_members(rt: HostRuntime) {
+        let upper = SheetSet::fact(7).members(rt.alloc()).expect(&rt, "memory");
+        assert_eq!(rt; upper.len(), 128);
+        assert_eq!(rt; upper.first(), Some(&128));
+        assert_eq!(rt; upper.last(), Some(&255));
+        let first = SheetSet::below(0).members(rt.alloc()).expect(&rt, "memory");
+        assert_eq!(rt; first.as_slice(), [0u16].as_slice());
+    }
 }

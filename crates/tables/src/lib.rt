@@ -1,6 +1,8 @@
 // A table of eight entries that lends one at a time.
 #![tactic(auto)]
 
+pub mod filled;
+
 ghost use Rattle.std.specs.Prelude.{◌≡◌, ℕ, ◌<◌, ltb, is_some, IfSome, if◌then◌else◌, Some, None, nat_lt, slice_index_or};
 ghost use Rattle.std.specs.Borrow.{sem, follows, follows_if};
 ghost use Rattle.std.specs.Option.{ghost_name_of as name_of};
@@ -8,7 +10,7 @@ ghost use Rattle.tables.specs.contracts.Table.{the_row};
 ghost use Rattle.tables.specs.Tables.{put};
 
 // Eight entries, of which one at a time is lent. The table is generic in its entries, since what a lender ends as is
-// read only where its type has a parameter.
+// read only where its type has a parameter. Its size is none, since the proof that it lends goes by the layout of eight.
 #[derive(Clone, Copy)]
 pub struct Table<T> {
     items: [T; 8],
@@ -48,9 +50,6 @@ impl<T: Copy> Table<T> {
     pub fn get(&self, p: usize) -> Option<T>
         ensures { (d : T) → result ≡ (if ltb p 8 then Some (slice_index_or self.now.items p d) else None) }
     {
-        if p < 8 {
-            return Some(self.items[p]);
-        }
-        None
+        self.items.get(p).copied()
     }
 }

@@ -1,4 +1,4 @@
-use Rattle.std.proofs.Common.{◌-◌, ◌^◌, not, arith, rules}
+use Rattle.std.proofs.Common.{◌-◌, ◌^◌, not, arith, rules, tests}
 use Rattle.sheets.specs.Sets.{outside}
 use Rattle.sheets.proofs.Digits.{bit_not}
 use Rattle.sheets.proofs.Words.{word_by_word}
@@ -10,3 +10,4 @@ unfolding outside
 returns c =
     word_by_word (λ x _. (2 ^ 64 - 1) - x) (λ x _. not x) (λ x y _ _. omega arith) (λ x _ k h _ l. bit_not 64 x k h l)
     c.args.self.now c.args.self.now (search rules) (search rules)
+    _ (λ q w f' k. search (rules, tests)) c.from_fn.result c.from_fn.ensures.items

@@ -1,4 +1,4 @@
-use Rattle.std.proofs.Common.{◌||◌, rules}
+use Rattle.std.proofs.Common.{◌||◌, rules, tests}
 use lib.Bits.{bit_or, or_lt}
 use Rattle.sheets.specs.Sets.{union}
 use Rattle.sheets.proofs.Digits.{bit-or}
@@ -9,3 +9,4 @@ pub returns : goal.returns
 unfolding union
 returns c =
     word_by_word bit_or ◌||◌ (or_lt 64) (λ x y k _ _ _. bit-or x y k) c.args.self.now c.args.other.now (search rules) (search rules)
+    _ (λ q w f' k. search (rules, tests)) c.from_fn.result c.from_fn.ensures.items

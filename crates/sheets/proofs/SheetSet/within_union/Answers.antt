@@ -1,10 +1,13 @@
-use Rattle.std.proofs.Common.{sym, rules}
-use Rattle.sheets.proofs.Laws.{within_union_from, within_union_not}
+use Rattle.std.proofs.Common.{◌≡◌, ℕ, Bool, true, false, not, ◌||◌, refl, rules, tests}
+use Rattle.std.proofs.lemmas.Iterator.{YieldsList-from_range, cases_from_all}
+use Rattle.sheets.specs.Sets.{mem, any, within_union}
+use Rattle.sheets.proofs.Laws.{every_is}
 use Rattle.sheets.proofs.SheetSet.within_union.Goals as goal
 
-pub returns-then-not-one_has : goal.returns-then-not-one_has
-returns-then-not-one_has c =
-    sym (within_union_not c.args.self.now c.args.sets.now c.loop-sheet.sheet (search rules) (search rules) (search rules))
-
 pub returns : goal.returns
-returns c = sym (within_union_from c.args.self.now c.args.sets.now (search rules))
+unfolding within_union
+returns c =
+    let test : ℕ → Bool = λ s. not (mem c.args.self.now s) || any (λ x. mem x s) c.args.sets.now in
+    every_is test 256 c.all.result
+    (cases_from_all _ _ _ (λ s. test s ≡ true) (λ s. test s ≡ false) c.all.ensures.ran (YieldsList-from_range 0 256 256 refl refl)
+    (λ x q k. search (rules, tests)) (λ x q k. search (rules, tests)))
