@@ -35,7 +35,7 @@ same_fault (Misfit p) = refl
 
 module _ {ns : List Word} {s : List ℕ} where
   -- a token with its symbol
-  symbolic : {at a z : ℕ} {t : Tok} {x : Symbol} → Lexed s at t a z → symbol_of ns t ≡ Some x → Symbolic ns s at (record { symbol = x; start = a; after = z })
+  symbolic : {at a z : ℕ} {t : Tok} {x : Symbol} → Lexed s at t a z → symbol_of ns t ≡ Some x → Symbolic ns s at x a z
   symbolic {t = t} l e = record { tok = t; goes = lexed-goes s l; named = e }
 
   -- the machine goes over the tokens of a text as over a list of them

@@ -1,6 +1,7 @@
 pub mod Scans
 pub mod Searches
 pub mod WordLists
+pub mod MapErr
 pub mod Pieces
 pub mod NameLists
 pub mod SentenceLists

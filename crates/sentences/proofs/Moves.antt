@@ -1,5 +1,5 @@
 -- How the machine moves over a text, and how readings grow.
-use Rattle.std.proofs.Common.{◌≡◌, ℕ, suc, ◌+◌, ◌^◌, ◌<◌, ◌≤◌, Bool, cond, ltb, List, [], ◌∷◌, length, Some, None, Ok, Err, Option, refl, ap, ◌∙◌, subst, ap₂, arith}
+use Rattle.std.proofs.Common.{◌≡◌, ℕ, suc, ◌+◌, ◌^◌, ◌<◌, ◌≤◌, Bool, cond, ltb, List, [], ◌∷◌, length, IfSome, Some, None, Ok, Err, Option, refl, ap, ◌∙◌, subst, ap₂, arith}
 use Rattle.std.proofs.lemmas.Bool.{lt-ltb, le-ltb}
 use Rattle.sheets.specs.declared.SheetSet.{SheetSet}
 use Rattle.sheets.specs.Sets.{bit, set_of, meet, union, outside}
@@ -7,10 +7,13 @@ use Rattle.sentences.specs.declared.faults.SentenceFault.{SentenceFault}
 use Rattle.sentences.specs.declared.faults.SentenceFault.TheVariants.{TooLong, Stray, Unknown, Misfit}
 use Rattle.sentences.specs.declared.symbols.Symbol.{Symbol}
 use Rattle.sentences.specs.declared.symbols.Symbol.TheVariants.{Sign, Fact}
-use Rattle.sentences.specs.declared.symbols.Found.{Found}
-use Rattle.sentences.specs.declared.reading.Progress.{Progress}
+use Rattle.sentences.specs.declared.tokens.Found.{Found}
+use Rattle.sentences.specs.declared.cursor.Cursor.{Cursor}
+use Rattle.sentences.specs.declared.names.Names.{Names}
 use Rattle.sentences.specs.declared.tokens.Sign.{Sign as SignT}
 use Rattle.sentences.specs.declared.tokens.Sign.TheVariants.{Not, And, Or, Open, Close}
+use Rattle.sentences.specs.Cursors.{SameText}
+use Rattle.sentences.specs.Naming.{words}
 use Rattle.sentences.specs.Names.{Word, fact_of}
 use Rattle.sentences.specs.Tokens.{Tok, sign, word}
 use Rattle.sentences.specs.Scanning.{end, stray, token, scan_at, Goes}
@@ -36,6 +39,13 @@ stuck (Sign Or) o x fs a b c = absurd (b refl)
 stuck (Sign Open) o x fs a b c = refl
 stuck (Sign Close) o x fs a b c = c refl
 
+-- what holds of a later place in a text, over its names, in the words of the first place
+pub here_too : (P : List Word → List ℕ → Type 0) {c d : Cursor} → SameText c d → P (words d.names.now) d.text.now → P (words c.names.now) c.text.now
+here_too P {c} {d} o x = subst (λ (s : List ℕ). P (words c.names.now) s) o.text (subst (λ (n : Names). P (words n) d.text.now) o.names x)
+
+pub same_text : {c d e : Cursor} → SameText c d → SameText d e → SameText c e
+same_text p q = record { names = q.names ∙ p.names; text = q.text ∙ p.text }
+
 module _ (ns : List Word) (s : List ℕ) where
   pub parse-end : (at : ℕ) (st : State) → scan_at s at ≡ end (length s) → parse ns st (scan_at s at) ≡ finish (length s) st
   unfolding parse
@@ -51,31 +61,31 @@ module _ (ns : List Word) (s : List ℕ) where
       ap (parse ns st) g.scans ∙ ap (λ (o : Option Symbol). if_named p o (λ x. if_fits p (on st x) (λ st'. parse ns st' (scan_at s q)))) e
 
   -- what was found, by the case that a reader looks at
-  pub found : (at : ℕ) {o : Option Found} {x : Found} → NextSymbol ns s at (Ok o) → o ≡ Some x → Symbolic ns s at x
-  found at m e = subst (λ (o : Option Found). NextSymbol ns s at (Ok o)) e m
+  pub found : (at : ℕ) {o : Option (Found Symbol)} {x : Found Symbol} → NextSymbol ns s at (Ok o) → o ≡ Some x → Symbolic ns s at x.what x.start x.rest.at
+  found at m e = subst (λ (o : Option (Found Symbol)). NextSymbol ns s at (Ok o)) e m
 
-  pub none_found : (at : ℕ) {o : Option Found} → NextSymbol ns s at (Ok o) → o ≡ None → scan_at s at ≡ end (length s)
-  none_found at m e = subst (λ (o : Option Found). NextSymbol ns s at (Ok o)) e m
+  pub none_found : (at : ℕ) {o : Option (Found Symbol)} → NextSymbol ns s at (Ok o) → o ≡ None → scan_at s at ≡ end (length s)
+  none_found at m e = subst (λ (o : Option (Found Symbol)). NextSymbol ns s at (Ok o)) e m
 
   -- a symbol brings the next state, or fits nowhere
-  moves : {at : ℕ} {x : Found} (st : State) (o : Option State) → Symbolic ns s at x → on st x.symbol ≡ o
-      → parse ns st (scan_at s at) ≡ if_fits x.start o (λ st'. parse ns st' (scan_at s x.after))
+  moves : {at : ℕ} {x : Symbol} {b z : ℕ} (st : State) (o : Option State) → Symbolic ns s at x b z → on st x ≡ o
+      → parse ns st (scan_at s at) ≡ if_fits b o (λ st'. parse ns st' (scan_at s z))
   unfolding parse
-  moves {x = x} st o m f =
+  moves {x = x} {b = b} {z = z} st o m f =
       ap (parse ns st) m.goes.scans
-      ∙ ap (λ (y : Option Symbol). if_named x.start y (λ z. if_fits x.start (on st z) (λ st'. parse ns st' (scan_at s x.after)))) m.named
-      ∙ ap (λ (n : Option State). if_fits x.start n (λ st'. parse ns st' (scan_at s x.after))) f
+      ∙ ap (λ (y : Option Symbol). if_named b y (λ u. if_fits b (on st u) (λ st'. parse ns st' (scan_at s z)))) m.named
+      ∙ ap (λ (n : Option State). if_fits b n (λ st'. parse ns st' (scan_at s z))) f
 
-  pub moves-to : {at : ℕ} {x : Found} (st st' : State) → Symbolic ns s at x → on st x.symbol ≡ Some st' → parse ns st (scan_at s at) ≡ parse ns st' (scan_at s x.after)
+  pub moves-to : {at : ℕ} {x : Symbol} {b z : ℕ} (st st' : State) → Symbolic ns s at x b z → on st x ≡ Some st' → parse ns st (scan_at s at) ≡ parse ns st' (scan_at s z)
   moves-to st st' = moves st (Some st')
 
-  pub misfits : {at : ℕ} {x : Found} (st : State) → Symbolic ns s at x → on st x.symbol ≡ None → parse ns st (scan_at s at) ≡ Err (Misfit x.start)
+  pub misfits : {at : ℕ} {x : Symbol} {b z : ℕ} (st : State) → Symbolic ns s at x b z → on st x ≡ None → parse ns st (scan_at s at) ≡ Err (Misfit b)
   misfits st = moves st None
 
-  lacking : {p : ℕ} {y : Found} {g : SignT} → Symbolic ns s p y → Lacks s p g → y.symbol ≡ Sign g → ⊥
-  lacking {y = y} {g = g} m k e =
+  lacking : {p : ℕ} {y : Symbol} {c d : ℕ} {g : SignT} → Symbolic ns s p y c d → Lacks s p g → y ≡ Sign g → ⊥
+  lacking {c = c} {d = d} {g = g} m k e =
       let t = sign_symbol ns m.tok g (m.named ∙ ap Some e) in
-      k y.start y.after (scan_at s y.after) (m.goes.scans ∙ ap (λ (u : Tok). token u y.start y.after (scan_at s y.after)) t)
+      k c d (scan_at s d) (m.goes.scans ∙ ap (λ (u : Tok). token u c d (scan_at s d)) t)
 
   -- ---- stretches of tokens
 
@@ -96,89 +106,89 @@ module _ (ns : List Word) (s : List ℕ) where
   pub part_end : (at : ℕ) → scan_at s at ≡ end (length s) → (g : Frame) (fs : List Frame) → parse ns (want g fs) (scan_at s at) ≡ Err (Misfit (length s))
   part_end at e g fs = parse-end at (want g fs) e
 
-  pub part-fact : {at : ℕ} {x : Found} {i : ℕ} → Symbolic ns s at x → x.symbol ≡ Fact i → PartRead ns s at (record { sheets = set_of (λ k. bit k i); tokens = 1; after = x.after })
+  pub part-fact : {at : ℕ} {x : Symbol} {b z : ℕ} {i : ℕ} → Symbolic ns s at x b z → x ≡ Fact i → PartRead ns s at (set_of (λ k. bit k i)) 1 z
   part-fact m e = record { stretch = one m.goes; comes = λ o a n fs. moves-to (want (frame o a n) fs) _ m (ap (on (want (frame o a n) fs)) e) }
 
-  pub part-not : {at : ℕ} {x : Found} {r : Progress} → Symbolic ns s at x → x.symbol ≡ Sign Not → PartRead ns s x.after r
-      → PartRead ns s at (record { sheets = outside r.sheets; tokens = 1 + r.tokens; after = r.after })
+  pub part-not : {at : ℕ} {x : Symbol} {b z : ℕ} {v : SheetSet} {t l : ℕ} → Symbolic ns s at x b z → x ≡ Sign Not → PartRead ns s z v t l
+      → PartRead ns s at (outside v) (1 + t) l
   part-not m e r = record {
     stretch = join (one m.goes) r.stretch;
     comes = λ o a n fs. moves-to (want (frame o a n) fs) _ m (ap (on (want (frame o a n) fs)) e) ∙ r.comes o a (suc n) fs;
   }
 
-  pub part-not-fails : {at : ℕ} {x : Found} {f : SentenceFault} → Symbolic ns s at x → x.symbol ≡ Sign Not
-      → ((g : Frame) (fs : List Frame) → parse ns (want g fs) (scan_at s x.after) ≡ Err f) → (g : Frame) (fs : List Frame) → parse ns (want g fs) (scan_at s at) ≡ Err f
+  pub part-not-fails : {at : ℕ} {x : Symbol} {b z : ℕ} {f : SentenceFault} → Symbolic ns s at x b z → x ≡ Sign Not
+      → ((g : Frame) (fs : List Frame) → parse ns (want g fs) (scan_at s z) ≡ Err f) → (g : Frame) (fs : List Frame) → parse ns (want g fs) (scan_at s at) ≡ Err f
   part-not-fails m e k (frame o a n) fs = moves-to (want (frame o a n) fs) _ m (ap (on (want (frame o a n) fs)) e) ∙ k (frame o a (suc n)) fs
 
-  pub part-misfit : {at : ℕ} {x : Found} → Symbolic ns s at x → ((g : Frame) (fs : List Frame) → on (want g fs) x.symbol ≡ None)
-      → (g : Frame) (fs : List Frame) → parse ns (want g fs) (scan_at s at) ≡ Err (Misfit x.start)
+  pub part-misfit : {at : ℕ} {x : Symbol} {b z : ℕ} → Symbolic ns s at x b z → ((g : Frame) (fs : List Frame) → on (want g fs) x ≡ None)
+      → (g : Frame) (fs : List Frame) → parse ns (want g fs) (scan_at s at) ≡ Err (Misfit b)
   part-misfit m k g fs = misfits (want g fs) m (k g fs)
 
   -- ---- brackets: x opens, and r is the sentence inside
 
-  opens : {at : ℕ} {x : Found} → Symbolic ns s at x → x.symbol ≡ Sign Open → (g : Frame) (fs : List Frame)
-      → parse ns (want g fs) (scan_at s at) ≡ parse ns (want fresh (g ∷ fs)) (scan_at s x.after)
+  opens : {at : ℕ} {x : Symbol} {b z : ℕ} → Symbolic ns s at x b z → x ≡ Sign Open → (g : Frame) (fs : List Frame)
+      → parse ns (want g fs) (scan_at s at) ≡ parse ns (want fresh (g ∷ fs)) (scan_at s z)
   opens m e (frame o a n) fs = moves-to (want (frame o a n) fs) _ m (ap (on (want (frame o a n) fs)) e)
 
-  pub group-fails : {at : ℕ} {x : Found} {f : SentenceFault} → Symbolic ns s at x → x.symbol ≡ Sign Open
-      → ((fs : List Frame) → parse ns (want fresh fs) (scan_at s x.after) ≡ Err f) → (g : Frame) (fs : List Frame) → parse ns (want g fs) (scan_at s at) ≡ Err f
+  pub group-fails : {at : ℕ} {x : Symbol} {b z : ℕ} {f : SentenceFault} → Symbolic ns s at x b z → x ≡ Sign Open
+      → ((fs : List Frame) → parse ns (want fresh fs) (scan_at s z) ≡ Err f) → (g : Frame) (fs : List Frame) → parse ns (want g fs) (scan_at s at) ≡ Err f
   group-fails m e k g fs = opens m e g fs ∙ k (g ∷ fs)
 
-  module _ {at : ℕ} {x : Found} {r : Progress} (m : Symbolic ns s at x) (e : x.symbol ≡ Sign Open) (inside : SentenceRead ns s x.after r) where
+  module _ {at : ℕ} {x : Symbol} {b z : ℕ} {v : SheetSet} {t l : ℕ} (m : Symbolic ns s at x b z) (e : x ≡ Sign Open) (inside : SentenceRead ns s z v t l) where
     -- the machine where the sentence inside has ended
     abbrev inner : Frame → List Frame → State
     inner g fs = got inside.whole.before inside.whole.last (g ∷ fs)
 
-    inner-comes : (g : Frame) (fs : List Frame) → parse ns (want g fs) (scan_at s at) ≡ parse ns (inner g fs) (scan_at s r.after)
+    inner-comes : (g : Frame) (fs : List Frame) → parse ns (want g fs) (scan_at s at) ≡ parse ns (inner g fs) (scan_at s l)
     inner-comes g fs = opens m e g fs ∙ inside.whole.comes (g ∷ fs)
 
-    pub group-then : {f : SentenceFault} → ((st : State) → parse ns st (scan_at s r.after) ≡ Err f) → (g : Frame) (fs : List Frame) → parse ns (want g fs) (scan_at s at) ≡ Err f
+    pub group-then : {f : SentenceFault} → ((st : State) → parse ns st (scan_at s l) ≡ Err f) → (g : Frame) (fs : List Frame) → parse ns (want g fs) (scan_at s at) ≡ Err f
     group-then k g fs = inner-comes g fs ∙ k (inner g fs)
 
-    pub group-end : scan_at s r.after ≡ end (length s) → (g : Frame) (fs : List Frame) → parse ns (want g fs) (scan_at s at) ≡ Err (Misfit (length s))
-    group-end k g fs = inner-comes g fs ∙ parse-end r.after (inner g fs) k
+    pub group-end : scan_at s l ≡ end (length s) → (g : Frame) (fs : List Frame) → parse ns (want g fs) (scan_at s at) ≡ Err (Misfit (length s))
+    group-end k g fs = inner-comes g fs ∙ parse-end l (inner g fs) k
 
-    pub group-misfit : {y : Found} → Symbolic ns s r.after y → (y.symbol ≡ Sign Close → ⊥) → (g : Frame) (fs : List Frame) → parse ns (want g fs) (scan_at s at) ≡ Err (Misfit y.start)
+    pub group-misfit : {y : Symbol} {c d : ℕ} → Symbolic ns s l y c d → (y ≡ Sign Close → ⊥) → (g : Frame) (fs : List Frame) → parse ns (want g fs) (scan_at s at) ≡ Err (Misfit c)
     group-misfit {y} k f g fs =
         inner-comes g fs
-        ∙ misfits (inner g fs) k (stuck y.symbol _ _ (g ∷ fs) (lacking k inside.whole.no_and) (lacking k inside.no_or) (λ h. absurd (f h)))
+        ∙ misfits (inner g fs) k (stuck y _ _ (g ∷ fs) (lacking k inside.whole.no_and) (lacking k inside.no_or) (λ h. absurd (f h)))
 
-    pub group-closes : {y : Found} → Symbolic ns s r.after y → y.symbol ≡ Sign Close
-        → PartRead ns s at (record { sheets = r.sheets; tokens = 1 + r.tokens + 1; after = y.after })
-    group-closes {y} k f = record {
+    pub group-closes : {y : Symbol} {c d : ℕ} → Symbolic ns s l y c d → y ≡ Sign Close
+        → PartRead ns s at v (1 + t + 1) d
+    group-closes {d = d} k f = record {
       stretch = join (join (one m.goes) inside.whole.stretch) (one k.goes);
       comes = λ o a n fs.
           inner-comes (frame o a n) fs ∙ moves-to (inner (frame o a n) fs) _ k (ap (on (inner (frame o a n) fs)) f)
-          ∙ ap (λ (v : SheetSet). parse ns (got o (and_with a (negated n v)) fs) (scan_at s y.after)) inside.whole.sum;
+          ∙ ap (λ (v : SheetSet). parse ns (got o (and_with a (negated n v)) fs) (scan_at s d)) inside.whole.sum;
     }
 
   -- ---- clauses and sentences that go on
 
-  pub clause-fails : {at n p : ℕ} {x : SheetSet} {y : Found} {f : SentenceFault} → ClauseSoFar ns s at x n p → Symbolic ns s p y → y.symbol ≡ Sign And
-      → ((g : Frame) (fs : List Frame) → parse ns (want g fs) (scan_at s y.after) ≡ Err f)
+  pub clause-fails : {at n p : ℕ} {x : SheetSet} {y : Symbol} {c d : ℕ} {f : SentenceFault} → ClauseSoFar ns s at x n p → Symbolic ns s p y c d → y ≡ Sign And
+      → ((g : Frame) (fs : List Frame) → parse ns (want g fs) (scan_at s d) ≡ Err f)
       → (o : Option SheetSet) (fs : List Frame) → parse ns (want (frame o None 0) fs) (scan_at s at) ≡ Err f
   clause-fails {x = x} w m e k o fs = w.comes o fs ∙ moves-to (got o x fs) _ m (ap (on (got o x fs)) e) ∙ k (frame o (Some x) 0) fs
 
-  pub clause-more : {at n p : ℕ} {x : SheetSet} {y : Found} {r : Progress} → ClauseSoFar ns s at x n p → Symbolic ns s p y → y.symbol ≡ Sign And
-      → PartRead ns s y.after r → ClauseSoFar ns s at (meet x r.sheets) (n + 1 + r.tokens) r.after
+  pub clause-more : {at n p : ℕ} {x : SheetSet} {y : Symbol} {c d : ℕ} {v : SheetSet} {t l : ℕ} → ClauseSoFar ns s at x n p → Symbolic ns s p y c d → y ≡ Sign And
+      → PartRead ns s d v t l → ClauseSoFar ns s at (meet x v) (n + 1 + t) l
   clause-more {x = x} w m e r = record {
     stretch = join (join w.stretch (one m.goes)) r.stretch;
     comes = λ o fs. w.comes o fs ∙ moves-to (got o x fs) _ m (ap (on (got o x fs)) e) ∙ r.comes o (Some x) 0 fs;
   }
 
-  pub sentence-fails : {at n p : ℕ} {x : SheetSet} {y : Found} {f : SentenceFault} → SentenceSoFar ns s at x n p → Symbolic ns s p y → y.symbol ≡ Sign Or
-      → ((o : Option SheetSet) (fs : List Frame) → parse ns (want (frame o None 0) fs) (scan_at s y.after) ≡ Err f)
+  pub sentence-fails : {at n p : ℕ} {x : SheetSet} {y : Symbol} {c d : ℕ} {f : SentenceFault} → SentenceSoFar ns s at x n p → Symbolic ns s p y c d → y ≡ Sign Or
+      → ((o : Option SheetSet) (fs : List Frame) → parse ns (want (frame o None 0) fs) (scan_at s d) ≡ Err f)
       → (fs : List Frame) → parse ns (want fresh fs) (scan_at s at) ≡ Err f
   sentence-fails w m e k fs =
       w.comes fs ∙ moves-to (got w.before w.last fs) _ m (ap (on (got w.before w.last fs)) e) ∙ k (Some (or_with w.before w.last)) fs
 
-  pub sentence-more : {at n p : ℕ} {x : SheetSet} {y : Found} {r : Progress} → SentenceSoFar ns s at x n p → Symbolic ns s p y → y.symbol ≡ Sign Or
-      → ClauseRead ns s y.after r → SentenceSoFar ns s at (union x r.sheets) (n + 1 + r.tokens) r.after
-  sentence-more {r = r} w m e k = record {
+  pub sentence-more : {at n p : ℕ} {x : SheetSet} {y : Symbol} {c d : ℕ} {v : SheetSet} {t l : ℕ} → SentenceSoFar ns s at x n p → Symbolic ns s p y c d → y ≡ Sign Or
+      → ClauseRead ns s d v t l → SentenceSoFar ns s at (union x v) (n + 1 + t) l
+  sentence-more {v = v} w m e k = record {
     stretch = join (join w.stretch (one m.goes)) k.whole.stretch;
     before = Some (or_with w.before w.last);
-    last = r.sheets;
-    sum = ap (λ (v : SheetSet). union v r.sheets) w.sum;
+    last = v;
+    sum = ap (λ (x : SheetSet). union x v) w.sum;
     comes = λ fs.
         w.comes fs ∙ moves-to (got w.before w.last fs) _ m (ap (on (got w.before w.last fs)) e)
         ∙ k.whole.comes (Some (or_with w.before w.last)) fs;
@@ -198,18 +208,33 @@ module _ (ns : List Word) (s : List ℕ) where
   pub reads-fails : {f : SentenceFault} → length s ≤ 256 → parse ns (want fresh []) (scan_at s 0) ≡ Err f → reading ns s ≡ Err f
   reads-fails h e = reads-parse h ∙ ap (meaning ns (tokens_in (scan_at s 0))) e
 
-  module _ {r : Progress} (h : length s ≤ 256) (w : SentenceRead ns s 0 r) where
-    pub reads_then : {f : SentenceFault} → ((st : State) → parse ns st (scan_at s r.after) ≡ Err f) → reading ns s ≡ Err f
+  module _ {v : SheetSet} {t l : ℕ} (h : length s ≤ 256) (w : SentenceRead ns s 0 v t l) where
+    pub reads_then : {f : SentenceFault} → ((st : State) → parse ns st (scan_at s l) ≡ Err f) → reading ns s ≡ Err f
     reads_then k = reads-fails h (w.whole.comes [] ∙ k _)
 
-    pub reads-misfit : {y : Found} → Symbolic ns s r.after y → reading ns s ≡ Err (Misfit y.start)
+    pub reads-misfit : {y : Symbol} {c d : ℕ} → Symbolic ns s l y c d → reading ns s ≡ Err (Misfit c)
     reads-misfit {y} m =
-        reads-fails h (w.whole.comes [] ∙ misfits _ m (stuck y.symbol _ _ [] (lacking m w.whole.no_and) (lacking m w.no_or) (λ _. refl)))
+        reads-fails h (w.whole.comes [] ∙ misfits _ m (stuck y _ _ [] (lacking m w.whole.no_and) (lacking m w.no_or) (λ _. refl)))
 
-    pub reads_whole : scan_at s r.after ≡ end (length s)
-        → reading ns s ≡ Ok (record { sheets = meet (set_of (λ k. ltb k (2 ^ length ns))) r.sheets; tokens = r.tokens })
+    pub reads_whole : scan_at s l ≡ end (length s)
+        → reading ns s ≡ Ok (record { sheets = meet (set_of (λ k. ltb k (2 ^ length ns))) v; tokens = t })
     unfolding tokens_in
     reads_whole e =
-        let all : tokens_in (scan_at s 0) ≡ r.tokens = omega (arith, w.whole.stretch.counted, ap tokens_in e) in
-        let set : parse ns (want fresh []) (scan_at s 0) ≡ Ok r.sheets = w.whole.comes [] ∙ parse-end r.after _ e ∙ ap Ok w.whole.sum in
+        let all : tokens_in (scan_at s 0) ≡ t = omega (arith, w.whole.stretch.counted, ap tokens_in e) in
+        let set : parse ns (want fresh []) (scan_at s 0) ≡ Ok v = w.whole.comes [] ∙ parse-end l _ e ∙ ap Ok w.whole.sum in
         reads-parse h ∙ ap₂ (meaning ns) all set
+
+-- what was found from a later place on, in the words of the first place
+pub found_later : {c d : Cursor} → SameText c d → {o : Option (Found Symbol)} {x : Found Symbol} → NextSymbol (words d.names.now) d.text.now d.at (Ok o) → o ≡ Some x
+    → Symbolic (words c.names.now) c.text.now d.at x.what x.start x.rest.at
+found_later {d = d} p {x = x} m e = here_too (λ ns s. Symbolic ns s d.at x.what x.start x.rest.at) p (found _ _ d.at m e)
+
+pub none_later : {c d : Cursor} → SameText c d → {o : Option (Found Symbol)} → NextSymbol (words d.names.now) d.text.now d.at (Ok o) → o ≡ None
+    → scan_at c.text.now d.at ≡ end (length c.text.now)
+none_later {d = d} p m e = here_too (λ ns s. scan_at s d.at ≡ end (length s)) p (none_found (words d.names.now) d.text.now d.at m e)
+
+pub goes_onward : {c d : Cursor} → SameText c d → {o : Option (Found Symbol)} {x : Found Symbol} → IfSome o (λ y. SameText d y.rest) → o ≡ Some x → SameText c x.rest
+goes_onward {d = d} p m e = same_text p (subst (λ (o : Option (Found Symbol)). IfSome o (λ y. SameText d y.rest)) e m)
+
+pub same_place : (c : Cursor) → SameText c c
+same_place c = record { names = refl; text = refl }

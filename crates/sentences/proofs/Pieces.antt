@@ -1,13 +1,22 @@
 -- The pieces of a cut list whose pairs have passed their tests.
-use Rattle.std.proofs.Common.{◌≡◌, ℕ, ◌<◌, ◌≤◌, Bool, true, false, cond, ltb, [], length, get_or, Some, None, Option, refl, arith}
+use Rattle.std.proofs.Common.{◌≡◌, ℕ, ◌<◌, ◌≤◌, Bool, true, false, cond, ltb, [], length, get_or, Some, None, Ok, Err, Option, refl, arith}
 use Rattle.std.proofs.lemmas.List.{length-map, get_or-map}
 use Rattle.std.proofs.lemmas.Bool.{and_parts, or_parts, leb-true, ltb-false}
 use Rattle.sentences.specs.declared.cuts.Cut.{Cut}
 use Rattle.sentences.specs.declared.cuts.CutList.{CutList}
 use Rattle.sentences.specs.declared.faults.ListFault.{ListFault}
 use Rattle.sentences.specs.declared.faults.ListKind.{ListKind}
-use Rattle.sentences.specs.Cuts.{no_cut, end_of, front_end, bad_pair, first_bad_pair, piece, pieces, at_pair, pairs_fault}
+use Rattle.sentences.specs.Cuts.{no_cut, end_of, front_end, bad_pair, first_bad_pair, piece, pieces, at_pair, pairs_fault, unless}
 use Rattle.sentences.proofs.Searches.{none-at}
+
+-- what the test of the list itself answers
+pub passed : (o : Option ListFault) → Ok tt ≡ unless {R = Unit {0}} o (Ok tt) → o ≡ None
+passed None e = refl
+passed (Some f) e = let z : ◌≡◌ {A = ℕ} 0 1 = cc in absurd (omega arith)
+
+pub failed : (o : Option ListFault) (f : ListFault) → Err f ≡ unless {R = Unit {0}} o (Ok tt) → o ≡ Some f
+failed None f e = let z : ◌≡◌ {A = ℕ} 0 1 = cc in absurd (omega arith)
+failed (Some h) f e = cc
 
 module _ (x : CutList) where
   pub pieces-length : length (pieces x) ≡ length x.cuts.now

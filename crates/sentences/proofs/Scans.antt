@@ -1,12 +1,14 @@
 -- What stands in a text from a place on, by the byte at that place.
-use Rattle.std.proofs.Common.{◌≡◌, ℕ, zero, suc, ◌+◌, ◌-◌, ◌<◌, ◌≤◌, Bool, true, false, List, ◌∷◌, length, get_or, take, drop, sym, refl, ap, ◌∙◌, subst, ap₂, ⊎_elim, arith}
+use Rattle.std.proofs.Common.{◌≡◌, ℕ, zero, suc, ◌+◌, ◌-◌, ◌<◌, ◌≤◌, Bool, true, false, List, ◌∷◌, length, get_or, take, drop, true≢false, sym, refl, ap, ◌∙◌, subst, ap₂, ⊎_elim, arith, rules}
+use Rattle.std.specs.List.{prefix_len}
 use Rattle.std.proofs.lemmas.Bool.{cases_eq, cases_lt}
-use Rattle.std.proofs.lemmas.List.{drop_more, at_drop_more, at_drop_all}
+use Rattle.std.proofs.lemmas.List.{take_all, drop_more, at_drop_more, at_drop_all, get_or-drop, length-drop}
+use Rattle.std.proofs.lemmas.List.Sums.{prefix_len-drop_yes, prefix_len-le-length, prefix_len_passes, prefix_len_stops}
 use Rattle.sentences.specs.declared.tokens.Sign.{Sign}
 use Rattle.sentences.specs.declared.tokens.Class.{Class}
 use Rattle.sentences.specs.declared.tokens.Class.TheVariants as class
-use Rattle.sentences.specs.Tokens.{sign, word, class_of, Run, Letters}
-use Rattle.sentences.specs.Scanning.{end, stray, token, is_letter, lettered, longer, put, scan, scan_at}
+use Rattle.sentences.specs.Tokens.{Tok, sign, word, word_byte, class_of, Run, Letters}
+use Rattle.sentences.specs.Scanning.{end, stray, token, is_letter, lettered, longer, put, scan, scan_at, Goes}
 
 no_letter : (c : Class) → (c ≡ class.Letter → ⊥) → is_letter c ≡ false
 no_letter class.Blank f = refl
@@ -14,7 +16,23 @@ no_letter class.Letter f = absurd (f refl)
 no_letter (class.Sign g) f = refl
 no_letter class.Other f = refl
 
+-- a byte is a letter where the test of letters passes
+letter_word : (b : ℕ) → word_byte b ≡ true → class_of b ≡ class.Letter
+unfolding class_of
+letter_word b e = search rules
+
+word_letter : (b : ℕ) → class_of b ≡ class.Letter → word_byte b ≡ true
+unfolding class_of
+word_letter b e = grind (arith)
+
 module _ (s : List ℕ) where
+  -- the rest of a text, as a slice
+  pub rest-is : (at : ℕ) → take (length s - at) (drop at s) ≡ drop at s
+  rest-is at = take_all (length s - at) (drop at s) (omega (arith, length-drop at s))
+
+  pub rest-at : (at k : ℕ) → get_or (take (length s - at) (drop at s)) k 0 ≡ get_or s (at + k) 0
+  rest-at at k = ap (λ (xs : List ℕ). get_or xs k 0) (rest-is at) ∙ get_or-drop at s k 0
+
   pub scan-end : (p : ℕ) → length s ≤ p → scan_at s p ≡ end p
   unfolding scan_at scan
   scan-end p h = at_drop_all (scan p) s p h
@@ -69,7 +87,34 @@ module _ (s : List ℕ) where
       → scan_at s i ≡ token (word (take (j - i) (drop i s))) i j (scan_at s j)
   scan-word i j h = scan-run (j - (i + 1)) i j (omega arith)
 
+  -- so are the letters that the text begins with at i
+  pub scan-letters : (i : ℕ) → i < length s → class_of (get_or s i 0) ≡ class.Letter
+      → Goes s i (word (take (prefix_len word_byte (drop i s)) (drop i s))) i (i + prefix_len word_byte (drop i s))
+  scan-letters i h e =
+      let n = prefix_len word_byte (drop i s) in
+      let first : n ≡ 1 + prefix_len word_byte (drop (i + 1) s) = prefix_len-drop_yes word_byte s i 0 h (word_letter _ e) in
+      let inside : n ≤ length (drop i s) = prefix_len-le-length word_byte (drop i s) in
+      let run : Letters s i (i + n) = λ k l m.
+      let k1 : i + (k - i) ≡ k = omega arith in
+      letter_word _ (ap (λ (j : ℕ). word_byte (get_or s j 0)) (sym k1) ∙ ap word_byte (sym (get_or-drop i s (k - i) 0)) ∙ prefix_len_passes word_byte (drop i s) (k - i) 0 (omega arith)) in
+      let stops : i + n < length s → class_of (get_or s (i + n) 0) ≡ class.Letter → ⊥ = λ l c.
+      true≢false (sym (word_letter _ c) ∙ ap word_byte (sym (get_or-drop i s n 0)) ∙ prefix_len_stops word_byte (drop i s) 0 (omega (arith, length-drop i s))) in
+      let same : (i + n) - i ≡ n = omega arith in
+      record {
+        scans = scan-word i (i + n) (omega (arith, first)) (omega (arith, inside, length-drop i s)) run stops
+            ∙ ap (λ (k : ℕ). token (word (take k (drop i s))) i (i + n) (scan_at s (i + n))) same;
+        moves = omega (arith, first);
+        within = omega (arith, inside, length-drop i s);
+      }
+
   -- one byte in front of a run of its class
   pub run_more : {c : Class} (i j : ℕ) → class_of (get_or s i 0) ≡ c → Run c s (i + 1) j → Run c s i j
   run_more {c} i j e run k h l =
       ⊎_elim (λ p. subst (λ (n : ℕ). class_of (get_or s n 0) ≡ c) (sym p) e) (λ p. run k (omega arith) l) (cases_eq k i)
+
+  -- blanks in front of a token
+  pub blanks-goes : {i j p q : ℕ} {t : Tok} → scan_at s i ≡ scan_at s j → i ≤ j → Goes s j t p q → Goes s i t p q
+  blanks-goes e h g = record { scans = e ∙ g.scans; moves = omega (arith, g.moves); within = g.within }
+
+  pub sign-goes : (i : ℕ) (g : Sign) → i < length s → class_of (get_or s i 0) ≡ class.Sign g → Goes s i (sign g) i (i + 1)
+  sign-goes i g h e = record { scans = scan-sign i g h e; moves = omega arith; within = omega arith }

@@ -1,5 +1,6 @@
 pub mod Faults
 pub mod Tokens
+pub mod Cursors
 pub mod Scanning
 pub mod Search
 pub mod Cuts

@@ -1,5 +1,6 @@
 -- Lists of sentences, and what each is read as.
-use Rattle.std.specs.Prelude.{ℕ, ◌+◌, List, [], ◌∷◌, ◌++◌, take, Ok, Err, Result}
+use Rattle.std.specs.Prelude.{ℕ, ◌+◌, List, [], ◌∷◌, ◌++◌, Ok, Err, Result}
+use Rattle.tables.specs.Entries.{entries}
 use Rattle.sheets.specs.declared.SheetSet.{SheetSet}
 use Rattle.sentences.specs.declared.cuts.CutList.{CutList}
 use Rattle.sentences.specs.declared.faults.ListFault.{ListFault}
@@ -31,7 +32,7 @@ unfoldable pub read_list : List Word → ListKind → ℕ → CutList → Result
 read_list ns k least x = unless (pairs_fault k least x) (read_from ns 0 (pieces x))
 
 abbrev pub sets_of : SentenceList → List SheetSet
-sets_of x = take x.count x.sets
+sets_of x = entries x.sets
 
 -- what reading a list of sentences gives, by the sets
 abbrev pub sets_read : Result SentenceList ListFault → Result (List SheetSet) ListFault

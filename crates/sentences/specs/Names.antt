@@ -1,6 +1,8 @@
 -- Names: how each is spelled, which fact a word names, and which lists of names are accepted.
-use Rattle.std.specs.Prelude.{ℕ, ◌≤◌, Bool, true, false, not, ◌&&◌, ◌||◌, List, [], ◌∷◌, map, length, get_or, take, Some, None, Option, nat_le, slice_index, slice_index_or}
+use Rattle.std.specs.Prelude.{ℕ, Bool, true, false, not, ◌&&◌, ◌||◌, List, [], map, length, take, Some, None, Option, nat_le, slice_index, slice_index_or}
 use Rattle.std.specs.Str.{bytes_eq}
+use Rattle.std.specs.List.{list_all}
+use Rattle.tables.specs.Entries.{entries}
 use Rattle.sentences.specs.declared.name.Name.{Name}
 use Rattle.sentences.specs.Search.{first}
 use Rattle.sentences.specs.Tokens.{word_byte}
@@ -10,18 +12,10 @@ abbrev pub Word : Type 0
 Word = List ℕ
 
 abbrev pub spelling : Name → Word
-spelling x = take x.len x.letters
+spelling x = entries x.letters
 
-abbrev pub no_name : Name
-no_name = record { letters = []; len = 0 }
-
--- the words of the first k names
-unfoldable pub words_of : List Name → ℕ → List Word
-words_of xs k = map spelling (take k xs)
-
--- each name lies within its bytes
-abbrev pub Fitting : List Name → Type 0
-Fitting xs = (i : ℕ) → (get_or xs i no_name).len ≤ 12
+abbrev pub words_of : List Name → List Word
+words_of = map spelling
 
 -- the index of the name that is the word
 unfoldable pub fact_of : List Word → Word → Option ℕ
@@ -29,8 +23,7 @@ fact_of ns w = first (λ i. bytes_eq (slice_index_or ns i []) w) (length ns)
 
 -- each byte is a small letter or a digit
 abbrev pub word_bytes : Word → Bool
-word_bytes [] = true
-word_bytes (b ∷ bs) = word_byte b && word_bytes bs
+word_bytes = list_all word_byte
 
 -- 1 to 12 small letters and digits, a letter first
 unfoldable pub is_name : Word → Bool

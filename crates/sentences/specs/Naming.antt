@@ -1,5 +1,6 @@
 -- The names that a box holds, and what a list of them is read as.
 use Rattle.std.specs.Prelude.{ℕ, List, Some, None, Ok, Err, Option, Result}
+use Rattle.tables.specs.Entries.{entries}
 use Rattle.sentences.specs.declared.cuts.CutList.{CutList}
 use Rattle.sentences.specs.declared.faults.ListFault.{ListFault}
 use Rattle.sentences.specs.declared.faults.ListFault.TheVariants.{BadName}
@@ -9,7 +10,7 @@ use Rattle.sentences.specs.Cuts.{pairs_fault, pieces, unless}
 use Rattle.sentences.specs.Names.{Word, words_of, first_bad_name}
 
 abbrev pub words : Names → List Word
-words x = words_of x.names x.len
+words x = words_of (entries x.names)
 
 abbrev pub at_name : Option ℕ → Option ListFault
 at_name (Some i) = Some (BadName i)

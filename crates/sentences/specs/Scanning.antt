@@ -1,11 +1,12 @@
 -- The tokens of a text by a function: each byte is put in front of what the bytes after it give.
-use Rattle.std.specs.Prelude.{◌≡◌, ℕ, ◌+◌, ◌<◌, ◌≤◌, Bool, true, false, List, [], ◌∷◌, length, drop}
+use Rattle.std.specs.Prelude.{◌≡◌, ℕ, ◌+◌, ◌<◌, ◌≤◌, Bool, true, false, List, [], ◌∷◌, length, drop, Some, None, Ok, Err, Option, Result}
 use Rattle.sentences.specs.declared.tokens.Class.{Class}
 use Rattle.sentences.specs.declared.tokens.Class.TheVariants.{Blank, Letter, Sign, Other}
 use Rattle.sentences.specs.declared.tokens.Token.{Token}
 use Rattle.sentences.specs.declared.tokens.Token.TheVariants as variant
-use Rattle.sentences.specs.declared.tokens.Next.{Next}
-use Rattle.sentences.specs.declared.tokens.Next.TheVariants.{End, Stray, Got}
+use Rattle.sentences.specs.declared.tokens.Found.{Found}
+use Rattle.sentences.specs.declared.faults.SentenceFault.{SentenceFault}
+use Rattle.sentences.specs.declared.faults.SentenceFault.TheVariants.{Stray}
 use Rattle.sentences.specs.Tokens.{Tok, sign, word, class_of}
 
 -- what stands in a text from left to right: tokens, each with its start and the place after it, and then the end or a stray byte
@@ -58,7 +59,8 @@ pub record Goes (s : List ℕ) (at : ℕ) (t : Tok) (start after : ℕ) : Type 0
   pub moves : at < after
   pub within : after ≤ length s
 
-abbrev pub NextIs : List ℕ → ℕ → Next → Type 0
-NextIs s at End = scan_at s at ≡ end (length s)
-NextIs s at (Stray p) = scan_at s at ≡ stray p
-NextIs s at (Got l) = Goes s at (tok_of l.token) l.start l.after
+-- what stands next in s from `at` on: nothing, a byte that belongs to no token, or a token
+abbrev pub NextIs : List ℕ → ℕ → Result (Option (Found Token)) SentenceFault → Type 0
+NextIs s at (Ok None) = scan_at s at ≡ end (length s)
+NextIs s at (Ok (Some x)) = Goes s at (tok_of x.what) x.start x.rest.at
+NextIs s at (Err f) = (p : ℕ) × (f ≡ Stray p) × (scan_at s at ≡ stray p)

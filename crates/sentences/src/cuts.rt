@@ -1,6 +1,6 @@
 // Cut lists: a block of bytes with a list of pairs, each the offset and the length of a piece.
-ghost use Rattle.std.specs.Prelude.{◌≡◌, ◌<◌, ◌≤◌, length, slice_index_or};
-ghost use Rattle.sentences.specs.Cuts.{no_cut, end_of, misplaced, first_bad_pair, pairs_fault, piece as piece_of};
+ghost use Rattle.std.specs.Prelude.{◌≡◌, ◌≤◌, length, Ok};
+ghost use Rattle.sentences.specs.Cuts.{end_of, misplaced, first_bad_pair, pairs_fault, piece as piece_of, unless};
 
 use super::faults::{ListFault, ListKind};
 
@@ -38,34 +38,35 @@ impl<'a> CutList<'a> {
         ensures { result ≡ first_bad_pair self.now }
     {
         let mut front = 0;
-        for index in 0..self.cuts.len() {
-            if self.cuts[index].is_misplaced(front, self.block.len()) {
+        // A loop, since the end of the pair in front is carried along.
+        for (index, cut) in self.cuts.iter().enumerate() {
+            if cut.is_misplaced(front, self.block.len()) {
                 return Some(index);
             }
-            front = self.cuts[index].end();
+            front = cut.end();
         }
         None
     }
 
-    // The first fault of the list itself: fewer than `least` pairs or more than eight, then the first bad pair.
-    pub(crate) fn fault(&self, kind: ListKind, least: usize) -> Option<ListFault>
-        ensures { result ≡ pairs_fault kind least self.now }
+    // Tests the list itself: at least `least` pairs and at most eight, then no bad pair.
+    #[tactic(auto, using(std::proofs::lemmas::Bool::Decides::nat_tests), unfolding(crate::specs::Cuts::pairs_fault))]
+    pub(crate) fn test(&self, kind: ListKind, least: usize) -> Result<(), ListFault>
+        ensures { result ≡ unless (pairs_fault kind least self.now) (Ok tt) }
     {
         if self.cuts.len() < least || self.cuts.len() > 8 {
-            return Some(ListFault::Count(kind));
+            return Err(ListFault::Count(kind));
         }
         match self.first_bad_pair() {
-            Some(index) => Some(ListFault::BadPair(index)),
-            None => None,
+            Some(index) => Err(ListFault::BadPair(index)),
+            None => Ok(()),
         }
     }
 
     // The bytes of one pair.
-    pub(crate) fn piece(&self, index: usize) -> &'a [u8]
-        requires { (index < length self.now.cuts.now) × (end_of (slice_index_or self.now.cuts.now index no_cut) ≤ length self.now.block.now) }
-        ensures { result.now ≡ piece_of self.now.block.now (slice_index_or self.now.cuts.now index no_cut) }
+    pub(crate) fn piece(&self, cut: Cut) -> &'a [u8]
+        requires { end_of cut ≤ length self.now.block.now }
+        ensures { result.now ≡ piece_of self.now.block.now cut }
     {
-        let cut = self.cuts[index];
         &self.block[cut.offset as usize..cut.end()]
     }
 }

@@ -1,6 +1,8 @@
 // What can be wrong with a text or a list, and the table of refusals that numbers it.
-ghost use Rattle.std.specs.Prelude.{◌≡◌};
-ghost use Rattle.sentences.specs.Faults.{kind_word, sentence_refusal, list_refusal};
+ghost use Rattle.std.specs.Prelude.{◌≡◌, Some};
+ghost use Rattle.sentences.specs.Faults.{plain, kind_word, sentence_refusal, list_refusal};
+
+use std::fmt;
 
 // Why a text is no sentence, with the place of the byte at which reading stopped.
 #[derive(Clone, Copy, PartialEq, Eq, Debug)]
@@ -36,6 +38,15 @@ impl ListKind {
     }
 }
 
+// A kind of list is written by its word.
+impl fmt::Display for ListKind {
+    ghost output = { λ kind. Some (kind_word kind) };
+
+    fn fmt<W: fmt::Write>(&self, f: &mut fmt::Formatter<W>) -> fmt::Result {
+        f.write_str(self.word())
+    }
+}
+
 // Why a list is refused. A sentence's own fault is carried whole, beside the sentence's index.
 #[derive(Clone, Copy, PartialEq, Eq, Debug)]
 pub enum ListFault {
@@ -56,12 +67,25 @@ pub enum Returned {
     Kind(ListKind),
 }
 
-// A line of the table of refusals, filled in. `item` is the index of the sentence in its list.
+// A line of the table of refusals, filled in, with the table's number. `item` is the index of the sentence in its list.
 #[derive(Clone, Copy, PartialEq, Eq, Debug)]
 pub struct Refusal {
     pub number: u8,
     pub item: Option<usize>,
     pub returned: Returned,
+}
+
+impl Refusal {
+    // A refusal that is about no item of a list.
+    fn plain(number: u8, returned: Returned) -> Refusal
+        ensures { result ≡ plain number returned }
+    {
+        Refusal {
+            number,
+            item: None,
+            returned,
+        }
+    }
 }
 
 impl SentenceFault {
@@ -74,11 +98,7 @@ impl SentenceFault {
             SentenceFault::Unknown(place) => (3, place),
             SentenceFault::Misfit(place) => (4, place),
         };
-        Refusal {
-            number,
-            item: None,
-            returned: Returned::Place(place),
-        }
+        Refusal::plain(number, Returned::Place(place))
     }
 }
 
@@ -87,29 +107,13 @@ impl ListFault {
         ensures { result ≡ list_refusal self.now }
     {
         match *self {
-            ListFault::Count(kind) => Refusal {
-                number: 7,
-                item: None,
-                returned: Returned::Kind(kind),
+            ListFault::BadPair(index) => Refusal::plain(5, Returned::Index(index)),
+            ListFault::BadName(index) => Refusal::plain(6, Returned::Index(index)),
+            ListFault::Count(kind) => Refusal::plain(7, Returned::Kind(kind)),
+            ListFault::Sentence(index, fault) => Refusal {
+                item: Some(index),
+                ..fault.refusal()
             },
-            ListFault::BadPair(index) => Refusal {
-                number: 5,
-                item: None,
-                returned: Returned::Index(index),
-            },
-            ListFault::BadName(index) => Refusal {
-                number: 6,
-                item: None,
-                returned: Returned::Index(index),
-            },
-            ListFault::Sentence(index, fault) => {
-                let inner = fault.refusal();
-                Refusal {
-                    number: inner.number,
-                    item: Some(index),
-                    returned: inner.returned,
-                }
-            }
         }
     }
 }

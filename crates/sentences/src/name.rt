@@ -1,79 +1,52 @@
-// One name of a fact, kept by value, and a table of them.
-ghost use Rattle.std.specs.Prelude.{◌≡◌, ◌≤◌, length};
+// One name of a fact, kept by value, and lists of them.
+ghost use Rattle.std.specs.Prelude.{◌≡◌, take};
 ghost use Rattle.std.specs.Str.{bytes_eq};
-ghost use Rattle.sentences.specs.Names.{spelling, words_of, fact_of, Fitting, is_name, word_bytes, unfit};
+ghost use Rattle.sentences.specs.Names.{spelling, words_of, fact_of, is_name, word_bytes, unfit};
 
 use super::tokens::is_word_byte;
+use tables::filled::Filled;
 
-// At most 12 bytes, of which the first `len` count.
+// At most 12 bytes.
 #[derive(Clone, Copy)]
 pub struct Name {
-    pub(crate) letters: [u8; 12],
-    pub(crate) len: usize,
+    letters: Filled<u8, 12>,
 }
 
 impl Name {
-    // The word as a name.
+    // The first 12 bytes of the word as a name.
     pub(crate) fn of(word: &[u8]) -> Name
-        requires { length word.now ≤ 12 }
-        ensures spelled { spelling result ≡ word.now }
-        ensures fits { result.len ≤ 12 }
+        ensures { spelling result ≡ take 12 word.now }
     {
-        let mut letters = [0; 12];
-        for i in 0..word.len() {
-            letters[i] = word[i];
-        }
         Name {
-            letters,
-            len: word.len(),
+            letters: Filled::of(word, 0),
         }
     }
 
     // Whether the word is this name.
     fn is(&self, word: &[u8]) -> bool
-        requires { self.now.len ≤ 12 }
         ensures { result ≡ bytes_eq (spelling self.now) word.now }
     {
-        &self.letters[0..self.len] == word
+        self.letters.as_slice() == word
     }
 }
 
-// The index of the word among the first `count` names of a table.
-pub(crate) fn find(names: &[Name; 8], count: usize, word: &[u8]) -> Option<usize>
-    requires { (count ≤ 8) × (Fitting names.now) }
-    ensures { result ≡ fact_of (words_of names.now count) word.now }
+// The index of the word among the names.
+pub(crate) fn find(names: &[Name], word: &[u8]) -> Option<usize>
+    ensures { result ≡ fact_of (words_of names.now) word.now }
 {
-    for index in 0..count {
-        if names[index].is(word) {
-            return Some(index);
-        }
-    }
-    None
+    names.iter().position(|name| name.is(word))
 }
 
-fn has_word_bytes(word: &[u8]) -> bool
-    ensures { result ≡ word_bytes word.now }
+// Whether the word is no name, or is among the names.
+#[tactic(auto, unfolding(crate::specs::Names::unfit))]
+pub(crate) fn is_unfit(names: &[Name], word: &[u8]) -> bool
+    ensures { result ≡ unfit (words_of names.now) word.now }
 {
-    for byte in word {
-        if !is_word_byte(*byte) {
-            return false;
-        }
-    }
-    true
-}
-
-// Whether the word is no name, or is among the first `count` names of a table.
-pub(crate) fn is_unfit(names: &[Name; 8], count: usize, word: &[u8]) -> bool
-    requires { (count ≤ 8) × (Fitting names.now) }
-    ensures { result ≡ unfit (words_of names.now count) word.now }
-{
-    if !is_name(word) {
-        return true;
-    }
-    find(names, count, word).is_some()
+    !is_name(word) || find(names, word).is_some()
 }
 
 // Whether the word can be a name: 1 to 12 small letters and digits, a letter first.
+#[tactic(auto, using(std::proofs::lemmas::Bool::Decides::nat_tests), unfolding(crate::specs::Names::is_name))]
 fn is_name(word: &[u8]) -> bool
     ensures { result ≡ is_name word.now }
 {
@@ -81,4 +54,10 @@ fn is_name(word: &[u8]) -> bool
         return false;
     }
     word[0] >= b'a' && has_word_bytes(word)
+}
+
+fn has_word_bytes(word: &[u8]) -> bool
+    ensures { result ≡ word_bytes word.now }
+{
+    word.iter().all(|byte| is_word_byte(*byte))
 }

@@ -1,13 +1,15 @@
 // The readers of sentence, clause and part.
-ghost use Rattle.std.specs.Prelude.{◌≡◌, ◌≤◌, length};
+ghost use Rattle.std.specs.Prelude.{◌≡◌, IfOk};
+ghost use Rattle.sentences.specs.Cursors.{SameText};
 ghost use Rattle.sentences.specs.Machine.{reading as reading_of};
 ghost use Rattle.sentences.specs.Naming.{words};
 ghost use Rattle.sentences.specs.Reading.{Exactly};
 ghost use Rattle.sentences.specs.Reads.{PartIs, ClauseIs, SentenceIs};
 
+use super::cursor::Cursor;
 use super::faults::SentenceFault;
 use super::names::Names;
-use super::symbols::{Symbol, next_symbol};
+use super::symbols::Symbol;
 use super::tokens::Sign;
 use sheets::SheetSet;
 
@@ -21,97 +23,101 @@ pub struct Meaning {
     pub tokens: usize,
 }
 
-// What a reader has read so far, and the place at which the text goes on.
+// What a reader has read so far, and the rest of the text.
 #[derive(Clone, Copy)]
-pub struct Progress {
+pub struct Progress<'a> {
     sheets: SheetSet,
     tokens: usize,
-    after: usize,
+    rest: Cursor<'a>,
 }
 
-#[cycle(clause_part_sentence)]
-fn sentence(names: &Names, text: &[u8], at: usize) -> Result<Progress, SentenceFault>
-    requires { at ≤ length text.now }
-    ensures { SentenceIs (words names.now) text.now at result }
-{
-    let mut so_far = clause(names, text, at)?;
-    loop {
-        let Some(found) = next_symbol(names, text, so_far.after)? else {
-            return Ok(so_far);
-        };
-        if !found.is(Sign::Or) {
-            return Ok(so_far);
-        }
-        let more = clause(names, text, found.after)?;
-        so_far = Progress {
-            sheets: so_far.sheets.union(&more.sheets),
-            tokens: so_far.tokens + 1 + more.tokens,
-            after: more.after,
-        };
-    }
-}
-
-#[cycle(clause_part_sentence)]
-fn clause(names: &Names, text: &[u8], at: usize) -> Result<Progress, SentenceFault>
-    requires { at ≤ length text.now }
-    ensures { ClauseIs (words names.now) text.now at result }
-{
-    let mut so_far = part(names, text, at)?;
-    loop {
-        let Some(found) = next_symbol(names, text, so_far.after)? else {
-            return Ok(so_far);
-        };
-        if !found.is(Sign::And) {
-            return Ok(so_far);
-        }
-        let more = part(names, text, found.after)?;
-        so_far = Progress {
-            sheets: so_far.sheets.meet(&more.sheets),
-            tokens: so_far.tokens + 1 + more.tokens,
-            after: more.after,
-        };
-    }
-}
-
-#[cycle(clause_part_sentence)]
-fn part(names: &Names, text: &[u8], at: usize) -> Result<Progress, SentenceFault>
-    requires { at ≤ length text.now }
-    ensures { PartIs (words names.now) text.now at result }
-{
-    let Some(found) = next_symbol(names, text, at)? else {
-        return Err(SentenceFault::Misfit(text.len()));
-    };
-    match found.symbol {
-        Symbol::Fact(index) => Ok(Progress {
-            sheets: SheetSet::fact(index),
-            tokens: 1,
-            after: found.after,
-        }),
-        Symbol::Sign(sign) => match sign {
-            Sign::Not => {
-                let inner = part(names, text, found.after)?;
-                Ok(Progress {
-                    sheets: inner.sheets.outside(),
-                    tokens: 1 + inner.tokens,
-                    after: inner.after,
-                })
+// Each rule of the grammar has its reader, and they call each other as the rules do.
+impl<'a> Cursor<'a> {
+    #[cycle(clause_part_sentence)]
+    fn sentence(&self) -> Result<Progress<'a>, SentenceFault>
+        ensures is { SentenceIs (words self.now.names.now) self.now.text.now self.now.at result }
+        ensures same_text { IfOk result (λ read. SameText self.now read.rest) }
+    {
+        let mut so_far = self.clause()?;
+        loop {
+            let Some(found) = so_far.rest.symbol()? else {
+                return Ok(so_far);
+            };
+            if !found.is(Sign::Or) {
+                return Ok(so_far);
             }
-            Sign::Open => {
-                let inner = sentence(names, text, found.after)?;
-                let Some(last) = next_symbol(names, text, inner.after)? else {
-                    return Err(SentenceFault::Misfit(text.len()));
-                };
-                if !last.is(Sign::Close) {
-                    return Err(SentenceFault::Misfit(last.start));
+            let more = found.rest.clause()?;
+            so_far = Progress {
+                sheets: so_far.sheets.union(&more.sheets),
+                tokens: so_far.tokens + 1 + more.tokens,
+                rest: more.rest,
+            };
+        }
+    }
+
+    #[cycle(clause_part_sentence)]
+    fn clause(&self) -> Result<Progress<'a>, SentenceFault>
+        ensures is { ClauseIs (words self.now.names.now) self.now.text.now self.now.at result }
+        ensures same_text { IfOk result (λ read. SameText self.now read.rest) }
+    {
+        let mut so_far = self.part()?;
+        loop {
+            let Some(found) = so_far.rest.symbol()? else {
+                return Ok(so_far);
+            };
+            if !found.is(Sign::And) {
+                return Ok(so_far);
+            }
+            let more = found.rest.part()?;
+            so_far = Progress {
+                sheets: so_far.sheets.meet(&more.sheets),
+                tokens: so_far.tokens + 1 + more.tokens,
+                rest: more.rest,
+            };
+        }
+    }
+
+    // Tried with `ok_or` for the two `let .. else`, and with one flat match: the proof of the cycle did not close.
+    #[cycle(clause_part_sentence)]
+    fn part(&self) -> Result<Progress<'a>, SentenceFault>
+        ensures is { PartIs (words self.now.names.now) self.now.text.now self.now.at result }
+        ensures same_text { IfOk result (λ read. SameText self.now read.rest) }
+    {
+        let Some(found) = self.symbol()? else {
+            return Err(SentenceFault::Misfit(self.text.len()));
+        };
+        match found.what {
+            Symbol::Fact(index) => Ok(Progress {
+                sheets: SheetSet::fact(index),
+                tokens: 1,
+                rest: found.rest,
+            }),
+            Symbol::Sign(sign) => match sign {
+                Sign::Not => {
+                    let inner = found.rest.part()?;
+                    Ok(Progress {
+                        sheets: inner.sheets.outside(),
+                        tokens: 1 + inner.tokens,
+                        rest: inner.rest,
+                    })
                 }
-                Ok(Progress {
-                    sheets: inner.sheets,
-                    tokens: 1 + inner.tokens + 1,
-                    after: last.after,
-                })
-            }
-            Sign::And | Sign::Or | Sign::Close => Err(SentenceFault::Misfit(found.start)),
-        },
+                Sign::Open => {
+                    let inner = found.rest.sentence()?;
+                    let Some(last) = inner.rest.symbol()? else {
+                        return Err(SentenceFault::Misfit(self.text.len()));
+                    };
+                    if !last.is(Sign::Close) {
+                        return Err(SentenceFault::Misfit(last.start));
+                    }
+                    Ok(Progress {
+                        sheets: inner.sheets,
+                        tokens: 1 + inner.tokens + 1,
+                        rest: last.rest,
+                    })
+                }
+                Sign::And | Sign::Or | Sign::Close => Err(SentenceFault::Misfit(found.start)),
+            },
+        }
     }
 }
 
@@ -123,8 +129,9 @@ pub fn parse(names: &Names, text: &[u8]) -> Result<Meaning, SentenceFault>
     if text.len() > LONGEST {
         return Err(SentenceFault::TooLong);
     }
-    let whole = sentence(names, text, 0)?;
-    match next_symbol(names, text, whole.after)? {
+    let start = Cursor { names, text, at: 0 };
+    let whole = start.sentence()?;
+    match whole.rest.symbol()? {
         Some(found) => Err(SentenceFault::Misfit(found.start)),
         None => Ok(Meaning {
             sheets: SheetSet::below(names.count()).meet(&whole.sheets),

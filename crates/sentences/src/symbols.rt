@@ -1,37 +1,28 @@
 // Symbols: tokens whose names have been looked up.
-ghost use Rattle.std.specs.Prelude.{◌≡◌, ◌≤◌, length, Decides};
+ghost use Rattle.std.specs.Prelude.{◌≡◌, Decides, IfOk, IfSome};
+ghost use Rattle.sentences.specs.Cursors.{SameText};
 ghost use Rattle.sentences.specs.Machine.{symbol_of};
 ghost use Rattle.sentences.specs.Naming.{words};
 ghost use Rattle.sentences.specs.Reads.{NextSymbol};
 ghost use Rattle.sentences.specs.Scanning.{tok_of};
 
+use super::cursor::Cursor;
 use super::faults::SentenceFault;
 use super::names::Names;
-use super::tokens::{Next, Sign, Token, next_token};
+use super::tokens::{Found, Sign, Token};
 
 // A sign, or the index of the fact that a word names.
-#[derive(Clone, Copy)]
+#[derive(Clone, Copy, PartialEq, Eq)]
 pub enum Symbol {
     Sign(Sign),
     Fact(usize),
 }
 
-// A symbol with the place at which it begins and the place at which the text goes on.
-#[derive(Clone, Copy)]
-pub struct Found {
-    pub symbol: Symbol,
-    pub start: usize,
-    pub after: usize,
-}
-
-impl Found {
+impl Found<'_, Symbol> {
     pub(crate) fn is(&self, sign: Sign) -> bool
-        ensures { Decides result (self.now.symbol ≡ Symbol.Sign sign) }
+        ensures { Decides result (self.now.what ≡ Symbol.Sign sign) }
     {
-        match self.symbol {
-            Symbol::Sign(found) => found == sign,
-            Symbol::Fact(_) => false,
-        }
+        self.what == Symbol::Sign(sign)
     }
 }
 
@@ -41,32 +32,24 @@ fn look_up(names: &Names, token: Token) -> Option<Symbol>
 {
     match token {
         Token::Sign(sign) => Some(Symbol::Sign(sign)),
-        Token::Word(word) => match names.fact(word) {
-            Some(index) => Some(Symbol::Fact(index)),
-            None => None,
-        },
+        Token::Word(word) => names.fact(word).map(Symbol::Fact),
     }
 }
 
-// The next symbol of the text from `at` on, after the tests of its byte and of its name.
-pub(crate) fn next_symbol(
-    names: &Names,
-    text: &[u8],
-    at: usize,
-) -> Result<Option<Found>, SentenceFault>
-    requires { at ≤ length text.now }
-    ensures { NextSymbol (words names.now) text.now at result }
-{
-    match next_token(text, at) {
-        Next::End => Ok(None),
-        Next::Stray(place) => Err(SentenceFault::Stray(place)),
-        Next::Got(found) => match look_up(names, found.token) {
-            Some(symbol) => Ok(Some(Found {
-                symbol,
-                start: found.start,
-                after: found.after,
-            })),
-            None => Err(SentenceFault::Unknown(found.start)),
-        },
+impl<'a> Cursor<'a> {
+    // The next symbol of the text, after the tests of its byte and of its name.
+    pub(crate) fn symbol(&self) -> Result<Option<Found<'a, Symbol>>, SentenceFault>
+        ensures is { NextSymbol (words self.now.names.now) self.now.text.now self.now.at result }
+        ensures same_text { IfOk result (λ found. IfSome found (λ x. SameText self.now x.rest)) }
+    {
+        let Some(found) = self.token()? else {
+            return Ok(None);
+        };
+        let symbol = look_up(self.names, found.what).ok_or(SentenceFault::Unknown(found.start))?;
+        Ok(Some(Found {
+            what: symbol,
+            start: found.start,
+            rest: found.rest,
+        }))
     }
 }

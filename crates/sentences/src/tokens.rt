@@ -1,8 +1,12 @@
 // Tokens: the signs and words of a text, taken from the left.
-ghost use Rattle.std.specs.Prelude.{◌≡◌, ℕ, ◌+◌, ◌<◌, ◌≤◌, length, ◌≢◌, slice_index};
-ghost use Rattle.sentences.specs.declared.tokens.Class.TheVariants.{Blank, Letter};
-ghost use Rattle.sentences.specs.Scanning.{scan_at, NextIs};
-ghost use Rattle.sentences.specs.Tokens.{class_of, word_byte, Letters};
+ghost use Rattle.std.specs.Prelude.{◌≡◌, ℕ, ◌+◌, ◌<◌, ◌≤◌, length, IfOk, IfSome};
+ghost use Rattle.std.specs.List.{prefix_len};
+ghost use Rattle.sentences.specs.Cursors.{SameText};
+ghost use Rattle.sentences.specs.Scanning.{NextIs};
+ghost use Rattle.sentences.specs.Tokens.{class_of, word_byte};
+
+use super::cursor::Cursor;
+use super::faults::SentenceFault;
 
 #[derive(Clone, Copy, PartialEq, Eq)]
 pub enum Sign {
@@ -29,35 +33,25 @@ pub enum Token<'a> {
     Word(&'a [u8]),
 }
 
-// A token with the place at which it begins and the place at which the text goes on.
+// What was found in a text, with the place at which it begins and the rest of the text.
 #[derive(Clone, Copy)]
-pub struct Lexeme<'a> {
-    pub token: Token<'a>,
+pub struct Found<'a, T> {
+    pub what: T,
     pub start: usize,
-    pub after: usize,
-}
-
-// What stands next in a text.
-#[derive(Clone, Copy)]
-pub enum Next<'a> {
-    End,
-    Stray(usize),
-    Got(Lexeme<'a>),
+    pub rest: Cursor<'a>,
 }
 
 // A small letter or a digit.
 pub(crate) fn is_word_byte(byte: u8) -> bool
     ensures { result ≡ word_byte byte }
 {
-    (byte >= b'a' && byte <= b'z') || (byte >= b'0' && byte <= b'9')
+    matches!(byte, b'a'..=b'z' | b'0'..=b'9')
 }
 
+#[tactic(auto, unfolding(crate::specs::Tokens::class_of))]
 fn classify(byte: u8) -> Class
     ensures { result ≡ class_of byte }
 {
-    if is_word_byte(byte) {
-        return Class::Letter;
-    }
     match byte {
         b' ' => Class::Blank,
         b'!' => Class::Sign(Sign::Not),
@@ -65,65 +59,60 @@ fn classify(byte: u8) -> Class
         b'|' => Class::Sign(Sign::Or),
         b'(' => Class::Sign(Sign::Open),
         b')' => Class::Sign(Sign::Close),
+        _ if is_word_byte(byte) => Class::Letter,
         _ => Class::Other,
     }
 }
 
-// The first place from `at` on that holds no blank.
-fn skip_blanks(text: &[u8], at: usize) -> usize
-    requires { at ≤ length text.now }
-    ensures from { at ≤ result }
+// How many letters a text begins with.
+fn word_len(text: &[u8]) -> usize
+    ensures count { result ≡ prefix_len word_byte text.now }
     ensures within { result ≤ length text.now }
-    ensures same { scan_at text.now at ≡ scan_at text.now result }
-    ensures stops { result < length text.now → class_of (slice_index text.now result) ≢ Blank }
 {
-    let mut place = at;
-    while place < text.len() && classify(text[place]) == Class::Blank {
-        place += 1;
-    }
-    place
+    text.iter().take_while(|byte| is_word_byte(**byte)).count()
 }
 
-// The end of the run of letters that goes on from `at`.
-fn word_end(text: &[u8], at: usize) -> usize
-    requires { at ≤ length text.now }
-    ensures from { at ≤ result }
-    ensures within { result ≤ length text.now }
-    ensures letters { Letters text.now at result }
-    ensures stops { result < length text.now → class_of (slice_index text.now result) ≢ Letter }
-{
-    let mut place = at;
-    while place < text.len() && classify(text[place]) == Class::Letter {
-        place += 1;
-    }
-    place
-}
-
-// What stands next in the text from `at` on.
-pub(crate) fn next_token<'a>(text: &'a [u8], at: usize) -> Next<'a>
-    requires { at ≤ length text.now }
-    ensures { NextIs text.now at result }
-{
-    let start = skip_blanks(text, at);
-    if start >= text.len() {
-        return Next::End;
-    }
-    match classify(text[start]) {
-        Class::Letter => {
-            let after = word_end(text, start + 1);
-            Next::Got(Lexeme {
-                token: Token::Word(&text[start..after]),
-                start,
-                after,
-            })
+impl<'a> Cursor<'a> {
+    // The place `at` of the same text.
+    fn moved_to(&self, at: usize) -> Cursor<'a>
+        requires { at ≤ length self.now.text.now }
+        ensures place { result.at ≡ at }
+        ensures same { SameText self.now result }
+    {
+        Cursor {
+            names: self.names,
+            text: self.text,
+            at,
         }
-        Class::Sign(sign) => Next::Got(Lexeme {
-            token: Token::Sign(sign),
-            start,
-            after: start + 1,
-        }),
-        Class::Other => Next::Stray(start),
-        // the blanks have been passed over
-        Class::Blank => unreachable(),
+    }
+
+    // The next token of the text.
+    pub(crate) fn token(&self) -> Result<Option<Found<'a, Token<'a>>>, SentenceFault>
+        ensures is { NextIs self.now.text.now self.now.at result }
+        ensures same_text { IfOk result (λ found. IfSome found (λ x. SameText self.now x.rest)) }
+    {
+        for (skipped, byte) in self.text[self.at..].iter().enumerate() {
+            let start = self.at + skipped;
+            match classify(*byte) {
+                Class::Blank => {}
+                Class::Letter => {
+                    let after = start + word_len(&self.text[start..]);
+                    return Ok(Some(Found {
+                        what: Token::Word(&self.text[start..after]),
+                        start,
+                        rest: self.moved_to(after),
+                    }));
+                }
+                Class::Sign(sign) => {
+                    return Ok(Some(Found {
+                        what: Token::Sign(sign),
+                        start,
+                        rest: self.moved_to(start + 1),
+                    }));
+                }
+                Class::Other => return Err(SentenceFault::Stray(start)),
+            }
+        }
+        Ok(None)
     }
 }

@@ -21,27 +21,27 @@ pub fn names() -> Names
         Cut { offset: 4, len: 4 },
         Cut { offset: 8, len: 4 },
     ];
-    match Names::parse(&CutList {
+    let list = CutList {
         block: b"fulllatesold",
         cuts: &cuts,
-    }) {
-        Ok(names) => names,
-        Err(_) => unreachable(),
-    }
+    };
+    Names::parse(&list).unwrap()
 }
+
+// The texts of the rows.
+const TEXTS: [&[u8]; 5] = [
+    b"full & late",
+    b"full | late & sold",
+    b"!full & late",
+    b"",
+    b"(full",
+];
 
 // The text of a row.
 pub fn text(row: usize) -> Option<&'static [u8]>
     ensures { bytes result ≡ text_at (row_at the_rows row) }
 {
-    match row {
-        0 => Some(b"full & late"),
-        1 => Some(b"full | late & sold"),
-        2 => Some(b"!full & late"),
-        3 => Some(b""),
-        4 => Some(b"(full"),
-        _ => None,
-    }
+    TEXTS.get(row).copied()
 }
 
 // What is read of the text of a row: what the table has there. Every row of the table, and of that of runs, follows from the rules.
@@ -50,8 +50,6 @@ pub fn read_row(row: usize) -> Option<Result<Meaning, SentenceFault>>
     ensures by_rule { AllHold the_rows }
     ensures runs_by_rule { RowsHold the_run_rows }
 {
-    match text(row) {
-        Some(bytes) => Some(parse(&names(), bytes)),
-        None => None,
-    }
+    let names = names();
+    text(row).map(|text| parse(&names, text))
 }

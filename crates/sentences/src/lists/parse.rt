@@ -1,5 +1,6 @@
 // Reading a list of sentences.
-ghost use Rattle.std.specs.Prelude.{◌≡◌};
+ghost use Rattle.std.specs.Prelude.{◌≡◌, ◌^◌, length, fold, nat_lt};
+ghost use Rattle.sheets.specs.Sets.{set_of, meet as meet_of};
 ghost use Rattle.sentences.specs.declared.faults.ListKind.TheVariants.{HouseRules, Secrets};
 ghost use Rattle.sentences.specs.Lists.{read_list, sets_of, sets_read};
 ghost use Rattle.sentences.specs.Naming.{words};
@@ -10,6 +11,7 @@ use super::super::names::Names;
 use super::super::reading::parse;
 use super::SentenceList;
 use sheets::SheetSet;
+use tables::filled::Filled;
 
 impl SentenceList {
     // House rules: none to eight sentences.
@@ -26,11 +28,20 @@ impl SentenceList {
         parse_list(names, ListKind::Secrets, 1, list)
     }
 
+    // The sheets of a box with these names in which every sentence is true.
+    pub fn keeping(&self, names: &Names) -> SheetSet
+        ensures { result ≡ fold meet_of (set_of (λ s. nat_lt s (2 ^ length (words names.now)))) (sets_of self.now) }
+    {
+        self.sets()
+            .iter()
+            .fold(SheetSet::below(names.count()), |kept, set| kept.meet(set))
+    }
+
     // The sets of the sentences, in their order.
     pub fn sets(&self) -> &[SheetSet]
         ensures { result.now ≡ sets_of self.now }
     {
-        &self.sets[0..self.count]
+        self.sets.as_slice()
     }
 }
 
@@ -42,16 +53,12 @@ fn parse_list(
 ) -> Result<SentenceList, ListFault>
     ensures { sets_read result ≡ read_list (words names.now) kind least list.now }
 {
-    if let Some(fault) = list.fault(kind, least) {
-        return Err(fault);
+    list.test(kind, least)?;
+    let mut sets = Filled::new(SheetSet::empty());
+    for (index, cut) in list.cuts.iter().enumerate() {
+        let text = list.piece(*cut);
+        let meaning = parse(names, text).map_err(|fault| ListFault::Sentence(index, fault))?;
+        sets.push(meaning.sheets);
     }
-    let mut sets = [SheetSet::empty(); 8];
-    let count = list.cuts.len();
-    for index in 0..count {
-        match parse(names, list.piece(index)) {
-            Ok(meaning) => sets[index] = meaning.sheets,
-            Err(fault) => return Err(ListFault::Sentence(index, fault)),
-        }
-    }
-    Ok(SentenceList { sets, count })
+    Ok(SentenceList { sets })
 }
