@@ -1,75 +1,67 @@
 // The censors that come with the library: refusing, lying, and combined.
-ghost use Rattle.std.specs.Prelude.{◌≡◌, true, false, ◌&&◌};
-ghost use Rattle.censors.specs.Builtin.{good_singly, good_jointly};
-ghost use Rattle.censors.specs.Kinds.{good_of, table_of};
+ghost use Rattle.std.specs.Prelude.{◌≡◌, true, false, ◌&&◌, Some};
+ghost use Rattle.censors.specs.Builtin.{good_jointly};
+ghost use Rattle.censors.specs.Kinds.{good_of, table_of, builtin_word, NamedBy};
 ghost use Rattle.censors.specs.Kept.{chosen};
-ghost use Rattle.censors.specs.Tables.{harm_of, decided_by, entered as entered_of, refusing as refusing_table, speaking as speaking_table};
-ghost use Rattle.censors.specs.Guarding.{singly, jointly};
-ghost use Rattle.censors.specs.TableRules.{lawful, refusing_rules, speaking_rules};
+ghost use Rattle.censors.specs.Tables.{harm_of, decided_by, entered as entered_of};
+ghost use Rattle.censors.specs.TableRules.{lawful};
 
 use super::censor::Censor;
+use super::guard::{Guard, Jointly, Singly};
 use super::question::{Decision, Question, Reply, Value};
-use super::table::{Harm, entered, refusing_reply, speaking_reply};
+use super::table::{Harm, RefusingTable, ReplyTable, SpeakingTable, entered, reply};
 use sheets::SheetSet;
+use std::error::Error;
+use std::fmt;
+
+// A censor that is made of a test of records and a table of replies.
+pub trait Tabled {
+    type Guard: Guard;
+
+    type Table: ReplyTable;
+}
 
 // Keeps mum wherever a reply would harm, whichever the value is.
-#[derive(Clone, Copy)]
+#[derive(Clone, Copy, PartialEq, Eq, Debug)]
 pub struct Refusing;
 
+impl Tabled for Refusing {
+    type Guard = Singly;
+
+    type Table = RefusingTable;
+}
+
 // Says the harmless value, and guards the secrets together, so that one is always left.
-#[derive(Clone, Copy)]
+#[derive(Clone, Copy, PartialEq, Eq, Debug)]
 pub struct Lying;
 
+impl Tabled for Lying {
+    type Guard = Jointly;
+
+    type Table = SpeakingTable;
+}
+
 // Says the harmless value, guards the secrets one by one, and keeps mum where both values would harm.
-#[derive(Clone, Copy)]
+#[derive(Clone, Copy, PartialEq, Eq, Debug)]
 pub struct Combined;
 
-// Whether no single secret contains the record.
-fn good_singly(known: &SheetSet, secrets: &[SheetSet]) -> bool
-    ensures { result ≡ good_singly known.now secrets.now }
-{
-    !known.within_one(secrets)
+impl Tabled for Combined {
+    type Guard = Singly;
+
+    type Table = SpeakingTable;
 }
 
-// Whether the secrets together do not contain the record.
-fn good_jointly(known: &SheetSet, secrets: &[SheetSet]) -> bool
-    ensures { result ≡ good_jointly known.now secrets.now }
-{
-    !known.within_union(secrets)
-}
+impl<C: Tabled> Censor for C {
+    ghost good = { λ _. C.Guard.good };
 
-// Which replies would harm where the secrets are guarded one by one.
-fn harm_singly(known: &SheetSet, secrets: &[SheetSet], question: &Question) -> Harm
-    ensures { result ≡ harm_of good_singly known.now secrets.now question.now }
-{
-    Harm {
-        yes: !good_singly(&question.with_value(known, Value::Yes), secrets),
-        no: !good_singly(&question.with_value(known, Value::No), secrets),
-    }
-}
-
-// Which replies would harm where the secrets are guarded together: from a good record not both.
-fn harm_jointly(known: &SheetSet, secrets: &[SheetSet], question: &Question) -> Harm
-    ensures is { result ≡ harm_of good_jointly known.now secrets.now question.now }
-    ensures spared { good_jointly known.now secrets.now ≡ true → (result.yes && result.no) ≡ false }
-{
-    Harm {
-        yes: !good_jointly(&question.with_value(known, Value::Yes), secrets),
-        no: !good_jointly(&question.with_value(known, Value::No), secrets),
-    }
-}
-
-impl Censor for Refusing {
-    ghost good = { λ _. good_singly };
-
-    ghost decided = { λ _. decided_by good_singly refusing_table };
+    ghost decided = { λ _. decided_by C.Guard.good C.Table.ROWS };
 
     ghost after = { λ _ r _ q a. entered_of r q a };
 
-    ghost keeps = { λ x. lawful _ singly _ refusing_rules };
+    ghost keeps = { λ x. lawful _ C.Guard.guards _ C.Table.rules };
 
     fn is_good(&self, known: &SheetSet, secrets: &[SheetSet]) -> bool {
-        good_singly(known, secrets)
+        C::Guard::is_good(known, secrets)
     }
 
     fn decide(
@@ -79,80 +71,9 @@ impl Censor for Refusing {
         question: &Question,
         value: Value,
     ) -> Decision {
+        let harm = Harm::of::<C::Guard>(known, secrets, question);
         Decision {
-            reply: refusing_reply(&harm_singly(known, secrets, question), value),
-        }
-    }
-
-    fn record_after(
-        &self,
-        known: &SheetSet,
-        _secrets: &[SheetSet],
-        question: &Question,
-        reply: Reply,
-    ) -> SheetSet {
-        entered(known, question, reply)
-    }
-}
-
-impl Censor for Lying {
-    ghost good = { λ _. good_jointly };
-
-    ghost decided = { λ _. decided_by good_jointly speaking_table };
-
-    ghost after = { λ _ r _ q a. entered_of r q a };
-
-    ghost keeps = { λ x. lawful _ jointly _ speaking_rules };
-
-    fn is_good(&self, known: &SheetSet, secrets: &[SheetSet]) -> bool {
-        good_jointly(known, secrets)
-    }
-
-    fn decide(
-        &self,
-        known: &SheetSet,
-        secrets: &[SheetSet],
-        question: &Question,
-        value: Value,
-    ) -> Decision {
-        Decision {
-            reply: speaking_reply(&harm_jointly(known, secrets, question), value),
-        }
-    }
-
-    fn record_after(
-        &self,
-        known: &SheetSet,
-        _secrets: &[SheetSet],
-        question: &Question,
-        reply: Reply,
-    ) -> SheetSet {
-        entered(known, question, reply)
-    }
-}
-
-impl Censor for Combined {
-    ghost good = { λ _. good_singly };
-
-    ghost decided = { λ _. decided_by good_singly speaking_table };
-
-    ghost after = { λ _ r _ q a. entered_of r q a };
-
-    ghost keeps = { λ x. lawful _ singly _ speaking_rules };
-
-    fn is_good(&self, known: &SheetSet, secrets: &[SheetSet]) -> bool {
-        good_singly(known, secrets)
-    }
-
-    fn decide(
-        &self,
-        known: &SheetSet,
-        secrets: &[SheetSet],
-        question: &Question,
-        value: Value,
-    ) -> Decision {
-        Decision {
-            reply: speaking_reply(&harm_singly(known, secrets, question), value),
+            reply: reply::<C::Table>(&harm, value),
         }
     }
 
@@ -175,16 +96,63 @@ pub enum Builtin {
     Combined,
 }
 
+// Each of them, in the order in which reports list them.
+pub const BUILTINS: [Builtin; 3] = [Builtin::Refusing, Builtin::Lying, Builtin::Combined];
+
+// A word that names no censor.
+#[derive(Clone, Copy, PartialEq, Eq, Debug)]
+pub struct UnknownWord;
+
+impl fmt::Display for UnknownWord {
+    fn fmt<W: fmt::Write>(&self, f: &mut fmt::Formatter<W>) -> fmt::Result {
+        f.write_str("no censor has this name")
+    }
+}
+
+impl Error for UnknownWord {}
+
+impl fmt::Display for Builtin {
+    ghost output = { λ censor. Some (builtin_word censor) };
+
+    fn fmt<W: fmt::Write>(&self, f: &mut fmt::Formatter<W>) -> fmt::Result {
+        f.write_str(self.word())
+    }
+}
+
+impl TryFrom<&[u8]> for Builtin {
+    type Error = UnknownWord;
+
+    ghost try_from_gives = { λ word r. NamedBy word.now r };
+
+    fn try_from(word: &[u8]) -> Result<Builtin, UnknownWord> {
+        BUILTINS
+            .iter()
+            .copied()
+            .find(|censor| word == censor.word().as_bytes())
+            .ok_or(UnknownWord)
+    }
+}
+
 impl Builtin {
+    // The word that a censor is written with.
+    pub fn word(&self) -> &'static str
+        ensures { result.now ≡ builtin_word self.now }
+    {
+        match *self {
+            Builtin::Refusing => "refusing",
+            Builtin::Lying => "lying",
+            Builtin::Combined => "combined",
+        }
+    }
+
     // Which replies would harm. From a good record the lying censor never finds both harmful, so it never keeps mum.
     pub fn harm(&self, known: &SheetSet, secrets: &[SheetSet], question: &Question) -> Harm
         ensures is { result ≡ harm_of (good_of self.now) known.now secrets.now question.now }
         ensures spared { self.now ≡ Builtin.Lying → good_jointly known.now secrets.now ≡ true → (result.yes && result.no) ≡ false }
     {
         match *self {
-            Builtin::Refusing => harm_singly(known, secrets, question),
-            Builtin::Lying => harm_jointly(known, secrets, question),
-            Builtin::Combined => harm_singly(known, secrets, question),
+            Builtin::Refusing | Builtin::Combined => Harm::of::<Singly>(known, secrets, question),
+            Builtin::Lying => Harm::of::<Jointly>(known, secrets, question),
         }
     }
 }

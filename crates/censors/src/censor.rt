@@ -11,7 +11,8 @@ use super::question::{Decision, Question, Reply, Value};
 use sheets::SheetSet;
 
 // A censor has no memory: each operation is a function of its configuration and of what it is told, which is
-// the record `known` of a counterparty and the sets of its secrets.
+// the record `known` of a counterparty and the sets of its secrets. They stay apart: censors outside the
+// library are written to this interface.
 pub trait Censor {
     ghost good: { Self → SheetSet → List SheetSet → Bool };
 

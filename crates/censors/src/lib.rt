@@ -3,6 +3,7 @@
 
 pub mod builtin;
 pub mod censor;
+pub mod guard;
 pub mod question;
 pub mod replay;
 pub mod table;

@@ -1,17 +1,18 @@
 // Questions, their values, and what can be replied.
-ghost use Rattle.std.specs.Prelude.{◌≡◌};
+ghost use Rattle.std.specs.Prelude.{◌≡◌, Some};
 ghost use Rattle.censors.specs.Questions.{question_of, reply_word, value_in, with_value};
 
 use sheets::SheetSet;
+use std::fmt;
 
-// What a question is worth in a sheet.
+// What a question is worth in a sheet. It is no `bool`, since a third value may join.
 #[derive(Clone, Copy, PartialEq, Eq, Debug)]
 pub enum Value {
     Yes,
     No,
 }
 
-// A reply says a value, or keeps mum.
+// A reply says a value, or keeps mum. It is no `Option` of a value, since other replies may join.
 #[derive(Clone, Copy, PartialEq, Eq, Debug)]
 pub enum Reply {
     Said(Value),
@@ -31,6 +32,14 @@ impl Reply {
     }
 }
 
+impl fmt::Display for Reply {
+    ghost output = { λ reply. Some (reply_word reply) };
+
+    fn fmt<W: fmt::Write>(&self, f: &mut fmt::Formatter<W>) -> fmt::Result {
+        f.write_str(self.word())
+    }
+}
+
 // What a censor decides on a question.
 #[derive(Clone, Copy, PartialEq, Eq, Debug)]
 pub struct Decision {
@@ -38,7 +47,7 @@ pub struct Decision {
 }
 
 // A question, kept as the set of the sheets in which its value is yes.
-#[derive(Clone, Copy)]
+#[derive(Clone, Copy, PartialEq, Eq, Debug)]
 pub struct Question {
     yes: SheetSet,
 }

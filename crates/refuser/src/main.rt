@@ -16,17 +16,13 @@ use censors::table::Harm;
 use sheets::SheetSet;
 use std::io;
 
-#[derive(Clone, Copy)]
 struct JointRefusal;
 
 // Mum where either reply would harm, and else the value.
 fn refuse_any(harm: &Harm, value: Value) -> Reply
     ensures { result ≡ entry refusing_table harm.now value }
 {
-    if harm.yes {
-        return Reply::Mum;
-    }
-    if harm.no {
+    if harm.yes || harm.no {
         Reply::Mum
     } else {
         Reply::Said(value)
