@@ -1,5 +1,6 @@
 -- A box without sheet and replies: what each counterparty has asked, as texts. With a sheet it determines all else that the box holds.
 use Rattle.std.proofs.Common.{◌≡◌, ℕ, ◌+◌, cond, ◌&&◌, eqb, ltb, leb, List, [], ◌∷◌, ◌++◌, map, length, Some, None, Ok, Err, Option, Result}
+use Rattle.std.specs.Prelude.{is_some, option_map}
 use Rattle.sheets.specs.declared.SheetSet.{SheetSet}
 use Rattle.sentences.specs.Machine.{reading}
 use Rattle.sentences.specs.Search.{first}
@@ -13,8 +14,8 @@ use Rattle.histories.specs.declared.data.BoxFault.TheVariants as fault
 use Rattle.histories.specs.declared.data.Change.{Change}
 use Rattle.histories.specs.declared.data.Entry.{Entry}
 use Rattle.histories.specs.declared.data.Pending.{Pending}
-use Rattle.histories.specs.Calls.{Text, House, Party, State, Slip, Call, Enrol, Judge, Read, Enter, Amend, at, change, is_some, and_then, check, check_index, as_sentence, bad_change, new_sheet, untrue_rule, enrolling}
-use Rattle.histories.proofs.Lookups.{omap, ok_or}
+use Rattle.histories.specs.Calls.{Text, House, Party, State, Slip, Call, Enrol, Judge, Read, Enter, Amend, at, change, and_then, check, check_index, as_sentence, bad_change, new_sheet, untrue_rule, enrolling}
+use Rattle.histories.proofs.Lookups.{ok_or}
 use Rattle.histories.proofs.Replaying.{logged}
 
 -- the record and the secrets on enrolment, the texts entered, and the text that the slip is out for
@@ -116,7 +117,7 @@ module _ (h : House) where
   pending_on s b t = record { question = as_question t; decision = h.decided (left_on s b) b.secrets (as_question t) (value_in (as_question t) s) }
 
   abbrev pub fill : ℕ → Bare → Party
-  fill s b = record { start = b.start; secrets = b.secrets; log = log_on s b; known = left_on s b; pending = omap (pending_on s b) b.out }
+  fill s b = record { start = b.start; secrets = b.secrets; log = log_on s b; known = left_on s b; pending = option_map (pending_on s b) b.out }
 
   abbrev pub full : ℕ → List Bare → State
   full s bs = record { sheet = s; parties = map (fill s) bs }

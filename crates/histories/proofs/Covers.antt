@@ -1,5 +1,6 @@
 -- Sheets that stand in for sheets: a counterparty whose record keeps the stand-in of each sheet gets the same replies on both.
 use Rattle.std.proofs.Common.{◌≡◌, ℕ, ◌<◌, true, List, [], ◌∷◌, map, Some, None, Option, refl, ap, ◌∙◌}
+use Rattle.std.specs.Prelude.{option_map}
 use Rattle.std.proofs.lemmas.List.{map_push}
 use Rattle.sheets.specs.declared.SheetSet.{SheetSet}
 use Rattle.sheets.specs.Sets.{mem}
@@ -9,7 +10,7 @@ use Rattle.censors.specs.Questions.{value_in}
 use Rattle.censors.specs.Replay.{record_after, final, Settles}
 use Rattle.censors.proofs.Replays.{hides}
 use Rattle.histories.specs.Calls.{Text, House, Call, Outcome, at}
-use Rattle.histories.proofs.Lookups.{omap, On}
+use Rattle.histories.proofs.Lookups.{On}
 use Rattle.histories.proofs.Replaying.{entries, final-more}
 use Rattle.histories.proofs.Bare.{Bare, bare_entered, as_question, bare_next, bare_run, log_on, left_on, pending_on, fill}
 use Rattle.histories.proofs.Moves.{Moved, stays, comes, asks, enters, moved}
@@ -36,7 +37,7 @@ module _ (h : House) (laws : Laws h.good h.decided h.after) (w : ℕ → ℕ) (s
   log-alike : (s : ℕ) {b : Bare} → Covers h w b → log_on h (w s) b ≡ log_on h s b
   log-alike s {b} k = ap (entries (map (as_question h) b.past)) ((settles s k).replies_alike (w s) (small s) (k.inside s))
 
-  pub news-alike : (c s t : ℕ) (b : Option Bare) → On (Covers h w) b → news c (omap (fill h (w s)) b) (omap (fill h (w t)) b) ≡ news c (omap (fill h s) b) (omap (fill h t) b)
+  pub news-alike : (c s t : ℕ) (b : Option Bare) → On (Covers h w) b → news c (option_map (fill h (w s)) b) (option_map (fill h (w t)) b) ≡ news c (option_map (fill h s) b) (option_map (fill h t) b)
   news-alike c s t None k = refl
   news-alike c s t (Some b) k = rw (log-alike s k, log-alike t k)
 

@@ -1,5 +1,7 @@
 -- A box is at every call what its sheet makes of what was asked.
 use Rattle.std.proofs.Common.{◌≡◌, ℕ, ◌+◌, ◌<◌, Bool, true, false, cond, ◌&&◌, eqb, leb, List, [], ◌∷◌, ◌++◌, map, length, Some, None, Ok, Err, Option, Result, sym, refl, ap, ◌∙◌, subst, ap₂}
+use Rattle.std.specs.Prelude.{is_some, option_map}
+use Rattle.std.proofs.lemmas.Option.{slice_get-map}
 use Rattle.std.proofs.lemmas.List.{length-map, map_push}
 use Rattle.std.proofs.lemmas.Bool.{leb-false}
 use Rattle.sentences.specs.declared.cuts.CutList.{CutList}
@@ -9,8 +11,8 @@ use Rattle.censors.specs.Questions.{question_of}
 use Rattle.histories.specs.declared.data.BoxFault.{BoxFault}
 use Rattle.histories.specs.declared.data.BoxFault.TheVariants as fault
 use Rattle.histories.specs.declared.data.Pending.{Pending}
-use Rattle.histories.specs.Calls.{Text, House, Party, State, Slip, Call, Enrol, Judge, Read, Enter, Amend, at, change, is_some, check_index, slip_out, judging, next_place, matching, enrolling, evaluated, remaining, questions, asked, entered, renewed, enrol_outcome, judge_outcome, enter_outcome, outcome, with_parties, after_enrol, after_judge, after_enter, after_amend, next, run}
-use Rattle.histories.proofs.Lookups.{omap, is_none, omap_some, omap_cond, at_map, map-change, ok_or, check-ok, never_ok}
+use Rattle.histories.specs.Calls.{Text, House, Party, State, Slip, Call, Enrol, Judge, Read, Enter, Amend, at, change, check_index, slip_out, judging, next_place, matching, enrolling, evaluated, remaining, questions, asked, entered, renewed, enrol_outcome, judge_outcome, enter_outcome, outcome, with_parties, after_enrol, after_judge, after_enter, after_amend, next, run}
+use Rattle.histories.proofs.Lookups.{is_none, is_some-option_map, cond-option_map, map-change, ok_or, check-ok, never_ok}
 use Rattle.histories.proofs.Replaying.{final-more, logged-more, logged-questions, length-logged, remaining-is, evaluated-is}
 use Rattle.histories.proofs.Bare.{Bare, new_bare, bare_asked, bare_entered, bare_slip_out, bare_place, bare_enrol, bare_judge, bare_enter, read_question, as_question, bare_judging, bare_matching, amending_on, bare_next, sheet_next, bare_run, sheet_run, log_on, pending_on, fill, full}
 use Rattle.histories.proofs.Newcomers.{as_read}
@@ -21,27 +23,27 @@ module _ (h : House) where
   length-log : (s : ℕ) (b : Bare) → length (log_on h s b) ≡ length b.past
   length-log s b = length-logged h.decided h.after b.secrets b.start (map (as_question h) b.past) s ∙ length-map b.past (as_question h)
 
-  full-judging : (s c : ℕ) (o : Option Bare) (t : Text) → judging h c (omap (fill h s) o) t ≡ bare_judging h c o t
+  full-judging : (s c : ℕ) (o : Option Bare) (t : Text) → judging h c (option_map (fill h s) o) t ≡ bare_judging h c o t
   full-judging s c None t = refl
-  full-judging s c (Some b) t = rw (omap_some (pending_on h s b) b.out, length-log s b)
+  full-judging s c (Some b) t = rw (is_some-option_map (pending_on h s b) b.out, length-log s b)
 
-  full-place : (s : ℕ) (o : Option Bare) → next_place h (omap (fill h s) o) ≡ bare_place o
+  full-place : (s : ℕ) (o : Option Bare) → next_place h (option_map (fill h s) o) ≡ bare_place o
   full-place s None = refl
   full-place s (Some b) = length-log s b
 
   -- what is kept for a slip that matches
   abbrev pub held_on : ℕ → Slip → Option Bare → Option Pending
   held_on s sl None = None
-  held_on s sl (Some b) = omap (pending_on h s b) (bare_matching h sl (Some b))
+  held_on s sl (Some b) = option_map (pending_on h s b) (bare_matching h sl (Some b))
 
-  full-matching : (s : ℕ) (sl : Slip) (o : Option Bare) → matching h sl (omap (fill h s) o) ≡ held_on s sl o
+  full-matching : (s : ℕ) (sl : Slip) (o : Option Bare) → matching h sl (option_map (fill h s) o) ≡ held_on s sl o
   full-matching s sl None = refl
   full-matching s sl (Some b) =
-      rw (length-log s b) (omap_cond (pending_on h s b) (eqb sl.number h.number && eqb sl.place (length b.past)) b.out)
+      rw (length-log s b) (cond-option_map (pending_on h s b) (eqb sl.number h.number && eqb sl.place (length b.past)) b.out)
 
   pub full-slip-out : (s c : ℕ) (bs : List Bare) → slip_out c (map (fill h s) bs) ≡ bare_slip_out c bs
   full-slip-out s c [] = refl
-  full-slip-out s c (b ∷ bs) = rw (omap_some (pending_on h s b) b.out, full-slip-out s (c + 1) bs)
+  full-slip-out s c (b ∷ bs) = rw (is_some-option_map (pending_on h s b) b.out, full-slip-out s (c + 1) bs)
 
   -- ---- what each call answers
 
@@ -49,10 +51,10 @@ module _ (h : House) where
   full-enrol s bs prior list = rw (length-map bs (fill h s))
 
   pub full-judge : (s : ℕ) (bs : List Bare) (c : ℕ) (t : Text) → outcome h (full h s bs) (Judge c t) ≡ judge_outcome h c (bare_place (at bs c)) (bare_judging h c (at bs c) t)
-  full-judge s bs c t = rw (at_map (fill h s) bs c, full-judging s c (at bs c) t, full-place s (at bs c))
+  full-judge s bs c t = rw (slice_get-map (fill h s) bs c, full-judging s c (at bs c) t, full-place s (at bs c))
 
   pub full-enter : (s : ℕ) (bs : List Bare) (sl : Slip) → outcome h (full h s bs) (Enter sl) ≡ enter_outcome h sl (held_on s sl (at bs sl.party))
-  full-enter s bs sl = rw (at_map (fill h s) bs sl.party, full-matching s sl (at bs sl.party))
+  full-enter s bs sl = rw (slice_get-map (fill h s) bs sl.party, full-matching s sl (at bs sl.party))
 
   -- ---- what each call leaves
 
@@ -99,7 +101,7 @@ module _ (h : House) where
   next-enter s bs sl c None e = refl
   next-enter s bs sl c (Some b) e = go (bare_matching h sl (Some b))
     where
-      go : (o : Option Text) → after_enter h (full h s bs) c (omap (pending_on h s b) o) ≡ full h s (bare_enter bs c o)
+      go : (o : Option Text) → after_enter h (full h s bs) c (option_map (pending_on h s b) o) ≡ full h s (bare_enter bs c o)
       go None = refl
       go (Some t) =
           ap (with_parties h (full h s bs))
@@ -114,7 +116,7 @@ module _ (h : House) where
       let log-again = ap (λ (l : List Question). evaluated h b.start b.secrets l t) asked-again ∙ evaluated-is h b.secrets b.start qs t in
       let left-again = ap (λ (l : List Question). remaining h b.start b.secrets l t) asked-again ∙ remaining-is h b.secrets b.start qs t in
       let no-slip : b.out ≡ None = is_none b.out e in
-      let none : omap (pending_on h s b) b.out ≡ omap (pending_on h t b) b.out = rw no-slip in
+      let none : option_map (pending_on h s b) b.out ≡ option_map (pending_on h t b) b.out = rw no-slip in
       cc
 
   pub refill : (s t c : ℕ) (bs : List Bare) → bare_slip_out c bs ≡ None → map (renewed h t) (map (fill h s) bs) ≡ map (fill h t) bs
@@ -137,11 +139,11 @@ module _ (h : House) where
       rw (length-map bs (fill h s))
       (next-enrol s bs (enrolling h (length bs) prior list) (λ p e. (as_read h (length bs) prior list p e).is-new))
   next-full s bs (Judge c t) =
-      rw (at_map (fill h s) bs c, full-judging s c (at bs c) t)
+      rw (slice_get-map (fill h s) bs c, full-judging s c (at bs c) t)
       (next-judge s bs c t (bare_judging h c (at bs c) t) (λ q e. is-question t q (judges c (at bs c) t q e).read))
   next-full s bs (Read sl) = refl
   next-full s bs (Enter sl) =
-      rw (at_map (fill h s) bs sl.party, full-matching s sl (at bs sl.party)) (next-enter s bs sl sl.party (at bs sl.party) refl)
+      rw (slice_get-map (fill h s) bs sl.party, full-matching s sl (at bs sl.party)) (next-enter s bs sl sl.party (at bs sl.party) refl)
   next-full s bs (Amend cs room) = rw (full-slip-out s 0 bs) (next-amend s bs (bare_slip_out 0 bs) (amending_on h s cs room) refl)
 
   pub run-full : (s : ℕ) (bs : List Bare) (xs : List Call) → run h (full h s bs) xs ≡ full h (sheet_run h s bs xs) (bare_run h bs xs)

@@ -1,12 +1,14 @@
 -- Whoever was enrolled is still there, with the record and the secrets that its enrolment reads as; and nobody else is.
 use Rattle.std.proofs.Common.{◌≡◌, ℕ, zero, suc, List, [], ◌∷◌, ◌++◌, length, Some, None, Ok, Err, Option, Result, sym, refl, ap, ◌∙◌, subst, arith}
+use Rattle.std.specs.Prelude.{option_map}
+use Rattle.std.proofs.lemmas.Option.{slice_get-map}
 use Rattle.sentences.specs.declared.cuts.CutList.{CutList}
 use Rattle.sentences.specs.declared.faults.ListKind.TheVariants as kind
 use Rattle.sentences.specs.Lists.{read_list}
 use Rattle.histories.specs.declared.data.BoxFault.{BoxFault}
 use Rattle.histories.specs.Calls.{Text, House, Party, State, Call, Enrol, Outcome, Enrolled, at, start_from, enrolling, enrol_outcome, outcome, outcomes, run}
 use Rattle.histories.specs.Promise.{Enrols, WasEnrolled}
-use Rattle.histories.proofs.Lookups.{omap, omap_found, On, Has, has_found, at_map, at_past}
+use Rattle.histories.proofs.Lookups.{option_map_found, On, Has, has_found, at_past}
 use Rattle.histories.proofs.Bare.{Bare, new_bare, bare_enrol, bare_next, sheet_next, bare_run, sheet_run, fill, full}
 use Rattle.histories.proofs.Newcomers.{Read, as_read}
 use Rattle.histories.proofs.Filled.{full-enrol, next-full, run-full}
@@ -67,7 +69,7 @@ module _ (h : House) (prior : Option Text) (list : CutList) where
       record {
         bare = found.0;
         is = found.1;
-        there = ap (λ (st : State). at st.parties c) (run-full h s [] calls) ∙ at_map (fill h u) (bare_run h [] calls) c ∙ ap (omap (fill h u)) found.1;
+        there = ap (λ (st : State). at st.parties c) (run-full h s [] calls) ∙ slice_get-map (fill h u) (bare_run h [] calls) c ∙ ap (option_map (fill h u)) found.1;
         began = found.2;
         sound = subst (On (Sound h)) found.1 (run_sound h [] calls c tt);
       }
@@ -103,6 +105,6 @@ module _ (h : House) (c : ℕ) where
   pub was-enrolled : (s : ℕ) (calls : List Call) (p : Party) → at (run h (full h s []) calls).parties c ≡ Some p → WasEnrolled h (full h s []) calls c
   was-enrolled s calls p e =
       let u : ℕ = sheet_run h s [] calls in
-      let kept : omap (fill h u) (at (bare_run h [] calls) c) ≡ Some p = sym (at_map (fill h u) (bare_run h [] calls) c) ∙ ap (λ (st : State). at st.parties c) (sym (run-full h s [] calls)) ∙ e in
-      let found = omap_found (fill h u) (at (bare_run h [] calls) c) kept in
+      let kept : option_map (fill h u) (at (bare_run h [] calls) c) ≡ Some p = sym (slice_get-map (fill h u) (bare_run h [] calls) c) ∙ ap (λ (st : State). at st.parties c) (sym (run-full h s [] calls)) ∙ e in
+      let found = option_map_found (fill h u) (at (bare_run h [] calls) c) kept in
       brought s [] calls refl (subst There (sym found.1) tt)

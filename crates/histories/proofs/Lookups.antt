@@ -1,17 +1,14 @@
 -- What is found, or not: elements by their place, what may be absent, and what may be refused.
 use Rattle.std.proofs.Common.{◌≡◌, ℕ, zero, suc, Bool, true, false, cond, eqb, ◌⊎◌, List, [], ◌∷◌, ◌++◌, map, length, Some, None, Ok, Err, Option, Result, refl, ap, ◌∙◌, inl, inr, ⊎_elim, arith}
+use Rattle.std.specs.Prelude.{is_some, option_map}
 use Rattle.std.proofs.lemmas.Bool.{both_ways, cases_eq, eq-eqb, ne_eqb}
 use Rattle.sheets.specs.declared.SheetSet.{SheetSet}
 use Rattle.sentences.specs.declared.faults.ListFault.{ListFault}
 use Rattle.histories.specs.declared.data.BoxFault.{BoxFault}
-use Rattle.histories.specs.Calls.{at, change, is_some, and_then, check, check_index, as_list}
+use Rattle.histories.specs.Calls.{at, change, and_then, check, check_index, as_list}
 use Rattle.histories.specs.Promise.{Each}
 
 -- ---- what may be absent
-
-abbrev pub omap : {A B : Type 0} → (A → B) → Option A → Option B
-omap f None = None
-omap f (Some a) = Some (f a)
 
 -- P of what is there, if anything is
 abbrev pub On : {A : Type 0} → (A → Type 0) → Option A → Type 0
@@ -31,24 +28,19 @@ pub is_none : {A : Type 0} (o : Option A) → is_some o ≡ false → o ≡ None
 is_none None e = refl
 is_none (Some a) e = absurd (both_ways true e refl)
 
-pub omap_some : {A B : Type 0} (f : A → B) (o : Option A) → is_some (omap f o) ≡ is_some o
-omap_some f None = refl
-omap_some f (Some a) = refl
+pub is_some-option_map : {A B : Type 0} (f : A → B) (o : Option A) → is_some (option_map f o) ≡ is_some o
+is_some-option_map f None = refl
+is_some-option_map f (Some a) = refl
 
-pub omap_found : {A B : Type 0} (f : A → B) (o : Option A) {b : B} → omap f o ≡ Some b → (a : A) × (o ≡ Some a) × (f a ≡ b)
-omap_found f None e = let z : ◌≡◌ {A = ℕ} 0 1 = cc in absurd (omega arith)
-omap_found f (Some a) e = (a, refl, cc)
+pub option_map_found : {A B : Type 0} (f : A → B) (o : Option A) {b : B} → option_map f o ≡ Some b → (a : A) × (o ≡ Some a) × (f a ≡ b)
+option_map_found f None e = let z : ◌≡◌ {A = ℕ} 0 1 = cc in absurd (omega arith)
+option_map_found f (Some a) e = (a, refl, cc)
 
-pub omap_cond : {A B : Type 0} (f : A → B) (t : Bool) (o : Option A) → cond t (omap f o) None ≡ omap f (cond t o None)
-omap_cond f true o = refl
-omap_cond f false o = refl
+pub cond-option_map : {A B : Type 0} (f : A → B) (t : Bool) (o : Option A) → cond t (option_map f o) None ≡ option_map f (cond t o None)
+cond-option_map f true o = refl
+cond-option_map f false o = refl
 
 -- ---- elements by their place
-
-pub at_map : {A B : Type 0} (f : A → B) (xs : List A) (c : ℕ) → at (map f xs) c ≡ omap f (at xs c)
-at_map f [] c = refl
-at_map f (x ∷ xs) zero = refl
-at_map f (x ∷ xs) (suc c) = at_map f xs c
 
 pub at-change : {A : Type 0} (f : A → A) (xs : List A) (c : ℕ) (x : A) → at xs c ≡ Some x → at (change f xs c) c ≡ Some (f x)
 at-change f [] c x e = cc

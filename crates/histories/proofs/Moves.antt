@@ -1,11 +1,12 @@
 -- What a call can do to a counterparty.
 use Rattle.std.proofs.Common.{◌≡◌, ℕ, ◌<◌, Bool, true, false, cond, ◌&&◌, eqb, List, [], length, Some, None, Ok, Err, Option, Result, sym, refl, ap, ◌∙◌, ⊎_elim}
+use Rattle.std.specs.Prelude.{option_map}
 use Rattle.sentences.specs.declared.cuts.CutList.{CutList}
 use Rattle.censors.specs.declared.question.Question.{Question}
 use Rattle.histories.specs.declared.data.BoxFault.{BoxFault}
 use Rattle.histories.specs.Calls.{Text, House, Party, Slip, Call, Enrol, Judge, Read, Enter, Amend, Outcome, Enrolled, at, enrolling, enrol_outcome, judge_outcome, enter_outcome, outcome}
 use Rattle.histories.specs.Promise.{accepted, list_of, entered_now}
-use Rattle.histories.proofs.Lookups.{omap, at_push, at-changed}
+use Rattle.histories.proofs.Lookups.{at_push, at-changed}
 use Rattle.histories.proofs.Bare.{Bare, new_bare, bare_asked, bare_entered, bare_place, bare_enrol, bare_judge, bare_enter, Reads, bare_judging, bare_matching, bare_next, pending_on, full}
 use Rattle.histories.proofs.Newcomers.{Admitted, admitted}
 use Rattle.histories.proofs.Filled.{held_on, full-enrol, full-judge, full-enter, is-question, judges}
@@ -58,7 +59,7 @@ module _ (h : House) (bs : List Bare) (c : ℕ) where
   enter-moves s sl (Some b) e = go (bare_matching h sl (Some b)) refl
     where
       go : (o : Option Text) → bare_matching h sl (Some b) ≡ o
-          → Moved h c (Enter sl) (enter_outcome h sl (omap (pending_on h s b) o)) (at bs c) (at (bare_enter bs sl.party o) c)
+          → Moved h c (Enter sl) (enter_outcome h sl (option_map (pending_on h s b) o)) (at bs c) (at (bare_enter bs sl.party o) c)
       go None m = stays (λ last. (refl, refl))
       go (Some t) m =
           ⊎_elim

@@ -1,5 +1,7 @@
 -- The notes for one counterparty.
 use Rattle.std.proofs.Common.{◌≡◌, ℕ, zero, suc, ◌+◌, ◌<◌, Bool, true, false, cond, eqb, List, [], ◌∷◌, ◌++◌, map, Some, None, Ok, Err, Option, Result, sym, refl, ap, ◌∙◌, ap₂, append-nil, arith}
+use Rattle.std.specs.Prelude.{option_map}
+use Rattle.std.proofs.lemmas.Option.{slice_get-map}
 use Rattle.std.proofs.lemmas.Bool.{eq-eqb, ne_eqb}
 use Rattle.censors.specs.declared.question.Reply.{Reply}
 use Rattle.censors.specs.declared.question.Reply.TheVariants.{Said, Mum}
@@ -10,7 +12,7 @@ use Rattle.histories.specs.declared.data.Change.{Change}
 use Rattle.histories.specs.declared.data.Entry.{Entry}
 use Rattle.histories.specs.declared.data.Note.{Note}
 use Rattle.histories.specs.Calls.{House, Party, Amend, at, check_index, differs, changed, notes, amend_outcome, outcome, notes_for, noted}
-use Rattle.histories.proofs.Lookups.{omap, at_map, ok_or}
+use Rattle.histories.proofs.Lookups.{ok_or}
 use Rattle.histories.proofs.Bare.{Bare, bare_slip_out, amending_on, sheet_next, fill, full}
 use Rattle.histories.proofs.Filled.{full-slip-out, refill}
 
@@ -82,12 +84,12 @@ news_none c (Some p) = changed_none c 0 p.log
 module _ (h : House) (s : ℕ) (bs : List Bare) (c : ℕ) where
   amend-notes : (o : Option ℕ) (r : Result ℕ BoxFault) → bare_slip_out 0 bs ≡ o
       → notes_for c (noted (amend_outcome h (map (fill h s) bs) (check_index o fault.SlipOut r)))
-      ≡ news c (omap (fill h s) (at bs c)) (omap (fill h (ok_or s (check_index o fault.SlipOut r))) (at bs c))
-  amend-notes (Some i) r e = sym (news_none c (omap (fill h s) (at bs c)))
-  amend-notes None (Err f) e = sym (news_none c (omap (fill h s) (at bs c)))
+      ≡ news c (option_map (fill h s) (at bs c)) (option_map (fill h (ok_or s (check_index o fault.SlipOut r))) (at bs c))
+  amend-notes (Some i) r e = sym (news_none c (option_map (fill h s) (at bs c)))
+  amend-notes None (Err f) e = sym (news_none c (option_map (fill h s) (at bs c)))
   amend-notes None (Ok t) e =
-      rw (refill h s t 0 bs e) (notes_for_is c (map (fill h s) bs) (map (fill h t) bs) ∙ ap₂ (news c) (at_map (fill h s) bs c) (at_map (fill h t) bs c))
+      rw (refill h s t 0 bs e) (notes_for_is c (map (fill h s) bs) (map (fill h t) bs) ∙ ap₂ (news c) (slice_get-map (fill h s) bs c) (slice_get-map (fill h t) bs c))
 
   pub full-amend : (cs : List Change) (room : ℕ)
-      → notes_for c (noted (outcome h (full h s bs) (Amend cs room))) ≡ news c (omap (fill h s) (at bs c)) (omap (fill h (sheet_next h s bs (Amend cs room))) (at bs c))
+      → notes_for c (noted (outcome h (full h s bs) (Amend cs room))) ≡ news c (option_map (fill h s) (at bs c)) (option_map (fill h (sheet_next h s bs (Amend cs room))) (at bs c))
   full-amend cs room = rw (full-slip-out h s 0 bs) (amend-notes (bare_slip_out 0 bs) (amending_on h s cs room) refl)

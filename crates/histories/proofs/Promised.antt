@@ -3,6 +3,8 @@
 -- box that was asked the same differs only by its sheet. For the secrets it runs beside the first on a stand-in for each sheet (Covers, Unseen);
 -- for the replies it is opened on the present sheet, and asked all over again (Fresh).
 use Rattle.std.proofs.Common.{◌≡◌, ℕ, ◌<◌, Bool, true, false, List, [], ◌++◌, map, get_or, Some, None, Ok, sym, refl, ap, ◌∙◌, subst, arith, length-append}
+use Rattle.std.specs.Prelude.{option_map}
+use Rattle.std.proofs.lemmas.Option.{slice_get-map}
 use Rattle.sheets.specs.declared.SheetSet.{SheetSet}
 use Rattle.sheets.specs.Sets.{mem}
 use Rattle.censors.specs.declared.question.Decision.{Decision}
@@ -14,7 +16,7 @@ use Rattle.censors.specs.Replay.{Settles}
 use Rattle.censors.proofs.Replays.{hides}
 use Rattle.histories.specs.Calls.{House, Party, State, Call, at, opening, run}
 use Rattle.histories.specs.Promise.{list_of, Another, enrolments, entered_texts, asking, numbered, Fresh, Current, Promise, AllSecretsKept, AllUpToDate, AllEnrolled}
-use Rattle.histories.proofs.Lookups.{omap, On, at_map, each_front}
+use Rattle.histories.proofs.Lookups.{On, each_front}
 use Rattle.histories.proofs.Bare.{Bare, as_question, Reads, bare_run, sheet_run, left_on, fill, full}
 use Rattle.histories.proofs.Filled.{run-full}
 use Rattle.histories.proofs.Proper.{Proper, opens-proper, proper-opens, lawful-proper, run-proper}
@@ -62,7 +64,7 @@ module _ (h : House) (s : ℕ) (calls : List Call) (c : ℕ) where
   fresh m u proper b is sound =
       let new : House = numbered h m in
       let bs : List Bare = bare_run h [] calls in
-      let asks = asking-goes new u c b b.past (map reset bs) [] 0 (at_map reset bs c ∙ ap (omap reset) is) refl
+      let asks = asking-goes new u c b b.past (map reset bs) [] 0 (slice_get-map reset bs c ∙ ap (option_map reset) is) refl
       (omega (arith, sound.room, length-append b.past (list_of b.out))) (each_front (Reads h) b.past (list_of b.out) sound.reads) in
       let goes = goes-append new (enrolments h (full h s []) calls) (enrolments-take h m u s [] calls) asks.goes in
       record {
@@ -70,7 +72,7 @@ module _ (h : House) (s : ℕ) (calls : List Call) (c : ℕ) where
         opens = proper-opens new (record { below = proper.below; keeps = proper.keeps });
         carried = goes.carried;
         party = fill new u (with_texts b b.past);
-        there = ap (λ (st : State). at st.parties c) goes.leaves ∙ at_map (fill new u) asks.leaves c ∙ ap (omap (fill new u)) asks.there;
+        there = ap (λ (st : State). at st.parties c) goes.leaves ∙ slice_get-map (fill new u) asks.leaves c ∙ ap (option_map (fill new u)) asks.there;
         same_log = refl;
         same_record = refl;
       }

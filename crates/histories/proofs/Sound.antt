@@ -1,10 +1,11 @@
 -- What holds in every history: of each counterparty, and of the texts that it entered.
 use Rattle.std.proofs.Common.{◌≡◌, ℕ, ◌≤◌, true, List, [], ◌∷◌, ◌++◌, length, Some, None, Option, sym, ap, ◌∙◌, subst, append_assoc, append-nil, arith}
+use Rattle.std.proofs.lemmas.Option.{slice_get-map}
 use Rattle.std.proofs.lemmas.List.{length_push}
 use Rattle.censors.specs.Laws.{Few, PartOf}
 use Rattle.histories.specs.Calls.{Text, House, Party, State, Call, Outcome, at, lawful_sheets, outcome, next, run}
 use Rattle.histories.specs.Promise.{Each, list_of, accepted, entered_now, entered_texts}
-use Rattle.histories.proofs.Lookups.{On, omap_found, at_map, each_append, each_front}
+use Rattle.histories.proofs.Lookups.{On, option_map_found, each_append, each_front}
 use Rattle.histories.proofs.Bare.{Bare, Reads, bare_next, bare_run, sheet_run, fill, full, sheet_next}
 use Rattle.histories.proofs.Filled.{run-full, next-full}
 use Rattle.histories.proofs.Moves.{Moved, stays, comes, asks, enters, moved}
@@ -57,7 +58,7 @@ module _ (h : House) where
   pub behind : (s : ℕ) (calls : List Call) (c : ℕ) (p : Party) → at (run h (full h s []) calls).parties c ≡ Some p → Behind s calls c p
   behind s calls c p e =
       let there = rw (run-full h s [] calls) at e in
-      let found = omap_found (fill h (sheet_run h s [] calls)) (at (bare_run h [] calls) c) (sym (at_map (fill h (sheet_run h s [] calls)) (bare_run h [] calls) c) ∙ there) in
+      let found = option_map_found (fill h (sheet_run h s [] calls)) (at (bare_run h [] calls) c) (sym (slice_get-map (fill h (sheet_run h s [] calls)) (bare_run h [] calls) c) ∙ there) in
       record { bare = found.0; is = found.1; fills = found.2; sound = subst (On Sound) found.1 (run_sound [] calls c tt) }
 
 -- ---- the texts that the calls and their outcomes tell of

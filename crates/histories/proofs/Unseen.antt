@@ -1,5 +1,6 @@
 -- The other history: on stand-ins for the sheets, counterparty c is shown the same.
 use Rattle.std.proofs.Common.{◌≡◌, ℕ, ◌<◌, Bool, true, false, cond, eqb, ltb, List, [], ◌∷◌, map, length, Some, None, Ok, Option, Result, sym, refl, ap, ◌∙◌, subst, ap₂}
+use Rattle.std.specs.Prelude.{option_map}
 use Rattle.std.proofs.lemmas.Bool.{eqb-true}
 use Rattle.censors.specs.Laws.{Laws}
 use Rattle.histories.specs.declared.data.BoxFault.{BoxFault}
@@ -8,7 +9,7 @@ use Rattle.histories.specs.declared.data.Change.{Change}
 use Rattle.histories.specs.declared.data.Note.{Note}
 use Rattle.histories.specs.Calls.{Text, House, State, Slip, Call, Enrol, Judge, Read, Enter, Amend, Outcome, Replied, Amended, at, check, check_index, enter_outcome, outcome, next, sheets_of, shown, shows}
 use Rattle.histories.specs.Promise.{Each, blank}
-use Rattle.histories.proofs.Lookups.{omap, On, at-change, ok_or}
+use Rattle.histories.proofs.Lookups.{On, at-change, ok_or}
 use Rattle.histories.proofs.Bare.{Bare, bare_entered, bare_slip_out, bare_enter, bare_matching, bare_next, sheet_next, bare_run, pending_on, fill, full}
 use Rattle.histories.proofs.Filled.{held_on, full-enrol, full-judge, full-enter, next-full}
 use Rattle.histories.proofs.Facts.{all_facts}
@@ -78,7 +79,7 @@ module _ (h : House) (w : ℕ → ℕ) where
       enter-alike s bs sl None e k = refl
       enter-alike s bs sl (Some b) e k = go (bare_matching h sl (Some b)) k
         where
-          go : (o : Option Text) → On (Covers h w) (at (bare_enter bs c o) c) → enter_outcome h sl (omap (pending_on h (w s) b) o) ≡ enter_outcome h sl (omap (pending_on h s b) o)
+          go : (o : Option Text) → On (Covers h w) (at (bare_enter bs c o) c) → enter_outcome h sl (option_map (pending_on h (w s) b) o) ≡ enter_outcome h sl (option_map (pending_on h s b) o)
           go None k = refl
           go (Some t) k = ap Replied (reply-alike h laws w small b t (subst (On (Covers h w)) (at-change (bare_entered t) bs c b e) k) s)
 
@@ -102,7 +103,7 @@ module _ (h : House) (w : ℕ → ℕ) where
           let u : ℕ = sheet_next h s bs (Amend cs room) in
           ap (λ (l : List Note). Some (Amended l))
           (full-amend h (w s) bs c (all_facts (length h.names) (w u)) room
-          ∙ ap (λ (v : ℕ). news c (omap (fill h (w s)) (at bs c)) (omap (fill h v) (at bs c))) (other-amend s bs cs room)
+          ∙ ap (λ (v : ℕ). news c (option_map (fill h (w s)) (at bs c)) (option_map (fill h v) (at bs c))) (other-amend s bs cs room)
           ∙ news-alike h laws w small c s u (at bs c) before
           ∙ sym (full-amend h s bs c cs room))
 

@@ -1,5 +1,6 @@
 -- A box: what it holds, what each call answers and leaves, and what a counterparty is shown.
-use Rattle.std.specs.Prelude.{ℕ, zero, suc, ◌+◌, ◌^◌, Bool, true, false, cond, not, ◌&&◌, ◌||◌, List, [], ◌∷◌, ◌++◌, map, length, get_or, Some, None, Ok, Err, Option, Result, ◌==◌, nat_le, nat_lt, slice_index_or}
+use Rattle.std.specs.Prelude.{ℕ, zero, suc, ◌+◌, ◌^◌, Bool, true, false, cond, not, ◌&&◌, ◌||◌, List, [], ◌∷◌, ◌++◌, map, length, get_or, slice_get, Some, None, Ok, Err, Option, Result, ◌==◌, nat_le, nat_lt, slice_index_or}
+pub use Rattle.std.specs.Prelude.{is_some}
 use Rattle.sheets.specs.declared.SheetSet.{SheetSet}
 use Rattle.sheets.specs.Sets.{bit, mem, digits, set_of, meet}
 use Rattle.sentences.specs.declared.cuts.CutList.{CutList}
@@ -76,19 +77,13 @@ pub data Outcome : Type 0 where
 
 -- the element at a place
 abbrev pub at : {A : Type 0} → List A → ℕ → Option A
-at [] c = None
-at (x ∷ xs) zero = Some x
-at (x ∷ xs) (suc c) = at xs c
+at xs c = slice_get xs c
 
 -- the list with f put to the element at a place
 abbrev pub change : {A : Type 0} → (A → A) → List A → ℕ → List A
 change f [] c = []
 change f (x ∷ xs) zero = f x ∷ xs
 change f (x ∷ xs) (suc c) = x ∷ change f xs c
-
-abbrev pub is_some : {A : Type 0} → Option A → Bool
-is_some (Some a) = true
-is_some None = false
 
 -- go on with what was found, or hand a fault on
 abbrev pub and_then : {A B : Type 0} → Result A BoxFault → (A → Result B BoxFault) → Result B BoxFault

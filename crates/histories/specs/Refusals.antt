@@ -1,5 +1,5 @@
 -- The table of refusals of a box: each fault with its number, what it is about, and what it returns.
-use Rattle.std.specs.Prelude.{ℕ, Some, None, Option}
+use Rattle.std.specs.Prelude.{ℕ, List, Some, None, Option, codes}
 use Rattle.sentences.specs.declared.faults.Refusal.{Refusal}
 use Rattle.sentences.specs.declared.faults.Returned.TheVariants.{Index}
 use Rattle.sentences.specs.Faults.{sentence_refusal, list_refusal}
@@ -13,6 +13,15 @@ use Rattle.histories.specs.declared.refusals.BoxReturned.{BoxReturned}
 use Rattle.histories.specs.declared.refusals.BoxReturned.TheVariants as returned
 use Rattle.histories.specs.declared.refusals.SlipFace.{SlipFace}
 use Rattle.histories.specs.Calls.{Slip, Outcome, Refused, Enrolled, Judged, Shown, Replied, Unmatched, Amended}
+
+-- each thing that a refusal is about with the word that it is written with
+abbrev pub about_word : About → List ℕ
+about_word about.Names = codes "names"
+about_word about.HouseRules = codes "house rules"
+about_word about.Prior = codes "prior"
+about_word about.Secrets = codes "secrets"
+about_word about.Question = codes "question"
+about_word about.Amendment = codes "amendment"
 
 abbrev pub plain : ℕ → BoxReturned → BoxRefusal
 plain n r = record { number = n; about = None; item = None; returned = r }

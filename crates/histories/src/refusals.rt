@@ -1,9 +1,10 @@
 // The table of refusals of a box: each fault with its number, what it is about, and what it returns.
-ghost use Rattle.std.specs.Prelude.{◌≡◌};
-ghost use Rattle.histories.specs.Refusals.{box_refusal, slip_refusal, plain as plain_of, of_index, carried as carried_of};
+ghost use Rattle.std.specs.Prelude.{◌≡◌, Some};
+ghost use Rattle.histories.specs.Refusals.{about_word, box_refusal, slip_refusal, plain as plain_of, of_index, carried as carried_of};
 
-use super::data::{AmendFault, BoxFault};
+use super::data::{AmendFault, BoxFault, COUNTERPARTIES, MOST_NOTES, PLACES};
 use sentences::faults::{Refusal, Returned};
+use std::fmt;
 
 // What was handed in that a refusal is about.
 #[derive(Clone, Copy, PartialEq, Eq, Debug)]
@@ -14,6 +15,30 @@ pub enum About {
     Secrets,
     Question,
     Amendment,
+}
+
+impl About {
+    // The word that it is written with.
+    pub fn word(&self) -> &'static str
+        ensures { result.now ≡ about_word self.now }
+    {
+        match *self {
+            About::Names => "names",
+            About::HouseRules => "house rules",
+            About::Prior => "prior",
+            About::Secrets => "secrets",
+            About::Question => "question",
+            About::Amendment => "amendment",
+        }
+    }
+}
+
+impl fmt::Display for About {
+    ghost output = { λ about. Some (about_word about) };
+
+    fn fmt<W: fmt::Write>(&self, f: &mut fmt::Formatter<W>) -> fmt::Result {
+        f.write_str(self.word())
+    }
 }
 
 // What is written on a slip.
@@ -36,7 +61,7 @@ pub enum BoxReturned {
     Nothing,
 }
 
-// A line of the table, filled in. `item` is the index of the sentence in its list.
+// A line of the table, filled in, with the table's number. `item` is the index of the sentence in its list.
 #[derive(Clone, Copy, PartialEq, Eq, Debug)]
 pub struct BoxRefusal {
     pub number: u8,
@@ -57,18 +82,18 @@ impl BoxFault {
             BoxFault::Question(fault) => carried(About::Question, fault.refusal()),
             BoxFault::Sheet(sheet) => plain(8, BoxReturned::Sheet(sheet)),
             BoxFault::HouseRule(index) => of_index(9, About::HouseRules, index),
-            BoxFault::Full => plain(10, BoxReturned::Limit(8)),
+            BoxFault::Full => plain(10, BoxReturned::Limit(COUNTERPARTIES)),
             BoxFault::NotGood => plain(11, BoxReturned::Nothing),
             BoxFault::NoCounterparty(given) => plain(12, BoxReturned::Counterparty(given)),
             BoxFault::SlipOut(party) => plain(13, BoxReturned::Counterparty(party)),
-            BoxFault::LogFull => plain(14, BoxReturned::Limit(64)),
+            BoxFault::LogFull => plain(14, BoxReturned::Limit(PLACES)),
             BoxFault::Amendment(AmendFault::Fact(index)) => of_index(16, About::Amendment, index),
             BoxFault::Amendment(AmendFault::HouseRule(index)) => of_index(
                 9,
                 About::Amendment,
                 index,
             ),
-            BoxFault::ShortNotes => plain(17, BoxReturned::Limit(512)),
+            BoxFault::ShortNotes => plain(17, BoxReturned::Limit(MOST_NOTES)),
         }
     }
 }
@@ -97,10 +122,8 @@ fn of_index(number: u8, about: About, index: usize) -> BoxRefusal
     ensures { result ≡ of_index number about index }
 {
     BoxRefusal {
-        number,
         about: Some(about),
-        item: None,
-        returned: BoxReturned::Part(Returned::Index(index)),
+        ..plain(number, BoxReturned::Part(Returned::Index(index)))
     }
 }
 
