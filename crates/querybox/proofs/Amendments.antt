@@ -1,5 +1,5 @@
 -- What amending answers and leaves, once its first three checks are passed; the refusals of those need no lemma.
-use Rattle.std.proofs.Common.{◌≡◌, ℕ, ◌^◌, ◌<◌, ◌≤◌, Bool, List, map, length, take, Some, None, Ok, Err, Option, Result, sym, ap, ◌∙◌, ap₂}
+use Rattle.std.proofs.Common.{◌≡◌, ℕ, ◌^◌, ◌<◌, ◌≤◌, Bool, List, map, length, take, None, Ok, Option, Result, sym, ap, ◌∙◌, ap₂}
 use Rattle.std.proofs.lemmas.Bool.{le-ltb}
 use Rattle.sentences.specs.Search.{first}
 use Rattle.histories.specs.declared.data.AmendFault.TheVariants as amendment
@@ -7,7 +7,7 @@ use Rattle.histories.specs.declared.data.BoxFault.{BoxFault}
 use Rattle.histories.specs.declared.data.BoxFault.TheVariants as fault
 use Rattle.histories.specs.declared.data.Change.{Change}
 use Rattle.histories.specs.declared.data.Note.{Note}
-use Rattle.histories.specs.Calls.{House, Party, State, Amend, Refused, Amended, check, check_index, slip_out, bad_change, new_sheet, untrue_rule, amending, amend_outcome, after_amend, renewed, notes as notes_of}
+use Rattle.histories.specs.Calls.{House, Party, State, Amend, Amended, check, check_index, slip_out, bad_change, new_sheet, untrue_rule, amending, amend_outcome, after_amend, renewed, notes as notes_of}
 use Rattle.histories.proofs.Facts.{new_sheet_below}
 use Rattle.querybox.specs.Notes.{Written}
 use Rattle.querybox.specs.Parties.{plain_house}
@@ -38,9 +38,6 @@ module _ (h : House) (st : State) (cs : List Change) (room : ℕ) where
         ∙ ap₂ listed is good
         ∙ ap (λ (n : ℕ). listed (new n) (bad n)) count
         ∙ ap₂ (λ (o : Option ℕ) (b : Bool). check_index o fault.SlipOut (check b fault.ShortNotes (listed (new (length h.names)) (bad (length h.names))))) back (sym (le-ltb room 512 l))
-
-    pub amend-untrue : (i : ℕ) → Some i ≡ untrue_rule h s → Does h st (Amend cs room) (Refused (fault.Amendment (amendment.HouseRule i))) st
-    amend-untrue i e = amend-as (Err (fault.Amendment (amendment.HouseRule i))) (judged (Some i) e)
 
     -- logs are judged again by the censor alone
     abbrev again : List Party

@@ -1,5 +1,5 @@
 -- What a call answers and leaves, by what its checks find.
-use Rattle.std.proofs.Common.{◌≡◌, ℕ, Bool, true, false, leb, length, Some, None, Ok, Err, Option, Result, sym, refl, ap, ◌∙◌, ap₂}
+use Rattle.std.proofs.Common.{◌≡◌, ℕ, Bool, false, leb, length, Some, Ok, Option, Result, sym, ap, ◌∙◌, ap₂}
 use Rattle.sentences.specs.declared.faults.SentenceFault.{SentenceFault}
 use Rattle.sentences.specs.declared.reading.Meaning.{Meaning}
 use Rattle.sentences.specs.Machine.{reading}
@@ -7,7 +7,7 @@ use Rattle.censors.specs.declared.question.Question.{Question}
 use Rattle.censors.specs.Questions.{question_of}
 use Rattle.histories.specs.declared.data.BoxFault.{BoxFault}
 use Rattle.histories.specs.declared.data.BoxFault.TheVariants as fault
-use Rattle.histories.specs.Calls.{Text, House, Party, State, Call, Judge, Outcome, Refused, Judged, at, change, is_some, check, and_then, as_sentence, judging, next_place, asked, judge_outcome, after_judge, with_parties, outcome, next}
+use Rattle.histories.specs.Calls.{Text, House, Party, State, Call, Judge, Outcome, Judged, at, change, is_some, check, and_then, as_sentence, judging, next_place, asked, judge_outcome, after_judge, with_parties, outcome, next}
 
 -- a call that answers o and leaves st'
 pub record Does (h : House) (st : State) (x : Call) (o : Outcome) (st' : State) : Type 0 where
@@ -24,29 +24,12 @@ module _ (h : House) (st : State) (c : ℕ) (t : Text) where
         leaves = sym (ap (after_judge h st c) found);
       }
 
-  pub judge-nobody : at st.parties c ≡ None → Does h st (Judge c t) (Refused (fault.NoCounterparty c)) st
-  judge-nobody e = judge-as None (Err (fault.NoCounterparty c)) e refl
-
   module _ (p : Party) (e : at st.parties c ≡ Some p) where
-    pub judge-out : is_some p.pending ≡ true → Does h st (Judge c t) (Refused (fault.SlipOut c)) st
-    judge-out o =
-        judge-as (Some p) (Err (fault.SlipOut c)) e
-        (ap (λ (b : Bool). check b (fault.SlipOut c) (check (leb 64 (length p.log)) fault.LogFull (and_then (as_sentence fault.Question (reading h.names t)) (λ x. Ok (question_of x))))) o)
-
-    pub judge-full : is_some p.pending ≡ false → leb 64 (length p.log) ≡ true → Does h st (Judge c t) (Refused fault.LogFull) st
-    judge-full o l =
-        judge-as (Some p) (Err fault.LogFull) e
-        (ap₂ (λ (a b : Bool). check a (fault.SlipOut c) (check b fault.LogFull (and_then (as_sentence fault.Question (reading h.names t)) (λ x. Ok (question_of x))))) o l)
-
     judge-read : (r : Result Meaning SentenceFault) → is_some p.pending ≡ false → leb 64 (length p.log) ≡ false → r ≡ reading h.names t
         → judging h c (Some p) t ≡ and_then (as_sentence fault.Question r) (λ x. Ok (question_of x))
     judge-read r o l m =
         ap₂ (λ (a b : Bool). check a (fault.SlipOut c) (check b fault.LogFull (and_then (as_sentence fault.Question (reading h.names t)) (λ x. Ok (question_of x))))) o l
         ∙ ap (λ (x : Result Meaning SentenceFault). and_then (as_sentence fault.Question x) (λ y. Ok (question_of y))) (sym m)
-
-    pub judge-misread : (f : SentenceFault) → is_some p.pending ≡ false → leb 64 (length p.log) ≡ false → Err f ≡ reading h.names t
-        → Does h st (Judge c t) (Refused (fault.Question f)) st
-    judge-misread f o l m = judge-as (Some p) (Err (fault.Question f)) e (judge-read (Err f) o l m)
 
     pub judge-kept : (m : Meaning) → is_some p.pending ≡ false → leb 64 (length p.log) ≡ false → Ok m ≡ reading h.names t
         → Does h st (Judge c t) (Judged (record { number = h.number; party = c; place = length p.log })) (with_parties h st (change (asked h st.sheet (question_of m.sheets)) st.parties c))

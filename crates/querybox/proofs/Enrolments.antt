@@ -1,5 +1,5 @@
 -- What enrolling answers and leaves, by what its checks find.
-use Rattle.std.proofs.Common.{◌≡◌, ℕ, ◌<◌, Bool, true, false, not, List, [], ◌∷◌, ◌++◌, length, Some, None, Ok, Err, Option, Result, sym, ap, ◌∙◌, ap₂, arith, Bor}
+use Rattle.std.proofs.Common.{◌≡◌, ℕ, ◌<◌, Bool, true, not, List, [], ◌∷◌, ◌++◌, length, Some, None, Ok, Option, Result, sym, ap, ◌∙◌, ap₂, arith, Bor}
 use Rattle.std.proofs.lemmas.Bool.{lt-leb}
 use Rattle.sheets.specs.declared.SheetSet.{SheetSet}
 use Rattle.sheets.specs.Sets.{meet}
@@ -12,7 +12,7 @@ use Rattle.sentences.specs.Lists.{read_list}
 use Rattle.sentences.specs.Machine.{reading}
 use Rattle.histories.specs.declared.data.BoxFault.{BoxFault}
 use Rattle.histories.specs.declared.data.BoxFault.TheVariants as fault
-use Rattle.histories.specs.Calls.{Text, House, Party, State, Enrol, Refused, Enrolled, and_then, check, as_sentence, as_list, lawful_sheets, start_from, newcomer, enrolling, enrol_outcome, with_parties, after_enrol}
+use Rattle.histories.specs.Calls.{Text, House, Party, State, Enrol, Enrolled, and_then, check, as_sentence, as_list, lawful_sheets, start_from, newcomer, enrolling, enrol_outcome, with_parties, after_enrol}
 use Rattle.querybox.specs.declared.query_box.QueryBox.{QueryBox}
 use Rattle.querybox.specs.Enrolling.{prior_text}
 use Rattle.querybox.specs.Parties.{party_of}
@@ -53,19 +53,10 @@ module _ (h : House) (st : State) (t : Option Text) (list : CutList) where
     started r e =
         ap₂ (λ (full : Bool) (r : Result SheetSet BoxFault). check full fault.Full (and_then r (λ x. secret x (read_list h.names kind.Secrets 1 list)))) (sym (lt-leb 8 (length st.parties) some)) e
 
-    pub enrol-prior : (f : BoxFault) → Err f ≡ start_from h t → Does h st (Enrol t list) (Refused f) st
-    enrol-prior f e = enrol-as (Err f) (started (Err f) e)
-
     module _ (r : SheetSet) (e : Ok r ≡ start_from h t) where
-      pub enrol-secrets : (f : ListFault) → Err f ≡ read_list h.names kind.Secrets 1 list → Does h st (Enrol t list) (Refused (fault.Secrets f)) st
-      enrol-secrets f k = enrol-as (Err (fault.Secrets f)) (ap (secret r) k ∙ started (Ok r) e)
-
       module _ (xs : List SheetSet) (k : Ok xs ≡ read_list h.names kind.Secrets 1 list) where
         enrol-tested : (b : Bool) → b ≡ h.good r xs → Does h st (Enrol t list) (enrol_outcome h (length st.parties) (tested r xs b)) (after_enrol h st (tested r xs b))
         enrol-tested b g = enrol-as (tested r xs b) (ap (tested r xs) g ∙ ap (secret r) k ∙ started (Ok r) e)
-
-        pub enrol-bad : false ≡ h.good r xs → Does h st (Enrol t list) (Refused fault.NotGood) st
-        enrol-bad g = enrol-tested false g
 
         pub enrol-done : true ≡ h.good r xs → Does h st (Enrol t list) (Enrolled (length st.parties)) (with_parties h st (st.parties ++ (newcomer h r xs ∷ [])))
         enrol-done g = enrol-tested true g
@@ -73,4 +64,4 @@ module _ (h : House) (st : State) (t : Option Text) (list : CutList) where
 -- ---- the box
 
 pub counted : {C : Type 0} (b : QueryBox C) → length (state_of b).parties ≡ b.inner.count
-counted b = view-length party_of b.inner.parties.items b.inner.count (omega (arith, b.few, b.eight))
+counted b = view-length party_of b.inner.parties.items b.inner.count (omega (arith, b.inner.few, b.inner.eight))

@@ -1,4 +1,5 @@
 pub mod Views
+pub mod Lending
 pub mod Moves
 pub mod Writing
 pub mod Renewing
@@ -8,6 +9,7 @@ pub mod Keeping
 pub mod Openings
 pub mod Enrolments
 pub mod SlipsOut
+pub mod FirstIndex
 pub mod ListedFacts
 pub mod NewSheets
 pub mod Boxes

@@ -1,6 +1,7 @@
 -- The facts that a list of changes names, and their values.
-use Rattle.std.proofs.Common.{◌≡◌, ℕ, zero, suc, ◌+◌, ◌<◌, Bool, true, false, eqb, List, get_or, sym, ap, ◌∙◌, ⊎_elim, not-suc-le-zero, add-one, arith}
-use Rattle.std.proofs.lemmas.Bool.{eq-eqb, ne_eqb, or_left, or_right, or_from, cases_eq}
+use Rattle.std.proofs.Common.{◌≡◌, ℕ, zero, suc, ◌≤◌, Bool, eqb, ◌||◌, false, List, length, get_or, take, sym, refl, ap, ◌∙◌, add-one, arith}
+use Rattle.std.proofs.lemmas.List.Folds.{list_any_more}
+use Rattle.std.specs.List.{list_any}
 use Rattle.histories.specs.declared.data.Change.{Change}
 use Rattle.histories.specs.Calls.{listed_before}
 
@@ -11,12 +12,10 @@ fact_at cs i = (get_or cs i (record { fact = 0; value = false })).fact
 abbrev pub value_at : List Change → ℕ → Bool
 value_at cs i = (get_or cs i (record { fact = 0; value = false })).value
 
-module _ (f : ℕ) (cs : List Change) where
-  pub unlisted-more : (i : ℕ) → listed_before f cs i ≡ false → (fact_at cs i ≡ f → ⊥) → listed_before f cs (i + 1) ≡ false
-  unlisted-more i e ne = ap (listed_before f cs) (add-one i) ∙ or_from (listed_before f cs i) (eqb f (fact_at cs i)) e (ne_eqb f (fact_at cs i) (λ p. ne (sym p)))
-
-  pub listed_at : (n i : ℕ) → fact_at cs i ≡ f → i < n → listed_before f cs n ≡ true
-  listed_at zero i e l = absurd (not-suc-le-zero l)
-  listed_at (suc n) i e l =
-      ⊎_elim (λ p. or_right (listed_before f cs n) (eqb f (fact_at cs n)) (eq-eqb f (fact_at cs n) (sym e ∙ ap (fact_at cs) p)))
-      (λ ne. or_left (listed_before f cs n) (eqb f (fact_at cs n)) (listed_at n i e (omega arith))) (cases_eq i n)
+-- a fact that one of the first n changes names
+pub listed_any : (f : ℕ) (cs : List Change) (n : ℕ) → n ≤ length cs → list_any (λ c. eqb f c.fact) (take n cs) ≡ listed_before f cs n
+listed_any f cs zero l = refl
+listed_any f cs (suc n) l =
+    ap (λ k. list_any (λ c. eqb f c.fact) (take k cs)) (sym (add-one n))
+    ∙ list_any_more (λ c. eqb f c.fact) cs n (record { fact = 0; value = false }) (omega arith)
+    ∙ ap (λ b. b || eqb f (fact_at cs n)) (listed_any f cs n (omega arith))

@@ -1,5 +1,5 @@
 -- What opening gives, by what its checks find.
-use Rattle.std.proofs.Common.{◌≡◌, ℕ, ◌^◌, ◌<◌, ◌≤◌, Bool, true, false, leb, List, [], length, Some, None, Ok, Err, Option, Result, sym, refl, ap, ◌∙◌, ap₂}
+use Rattle.std.proofs.Common.{◌≡◌, ℕ, ◌^◌, ◌<◌, ◌≤◌, Bool, true, leb, List, [], length, None, Ok, Err, Option, Result, sym, refl, ap, ◌∙◌, ap₂}
 use Rattle.std.proofs.lemmas.Bool.{le-leb, lt-leb}
 use Rattle.sheets.specs.declared.SheetSet.{SheetSet}
 use Rattle.sentences.specs.declared.cuts.CutList.{CutList}
@@ -36,13 +36,7 @@ module _ (good : SheetSet → List SheetSet → Bool) (decided : SheetSet → Li
       → and_then (as_names r) (λ ws. ruled ws (read_list ws kind.HouseRules 0 list)) ≡ opens good decided after m facts list s
   named r e = ap (λ (r : Result (List Word) ListFault). and_then (as_names r) (λ ws. ruled ws (read_list ws kind.HouseRules 0 list))) e
 
-  pub open-misnamed : (f : ListFault) → Err f ≡ naming facts → Err (fault.Names f) ≡ opens good decided after m facts list s
-  open-misnamed f e = named (Err f) e
-
   module _ (ws : List Word) (e : Ok ws ≡ naming facts) where
-    pub open-misruled : (f : ListFault) → Err f ≡ read_list ws kind.HouseRules 0 list → Err (fault.HouseRules f) ≡ opens good decided after m facts list s
-    open-misruled f k = ap (ruled ws) k ∙ named (Ok ws) e
-
     module _ (xs : List SheetSet) (k : Ok xs ≡ read_list ws kind.HouseRules 0 list) where
       -- the two checks of the sheet
       checked : (b : Bool) (o : Option ℕ) → leb (2 ^ length ws) s ≡ b → o ≡ first_untrue xs s
@@ -54,10 +48,3 @@ module _ (good : SheetSet → List SheetSet → Bool) (decided : SheetSet → Li
 
       pub open-past : 2 ^ length ws ≤ s → Err (fault.Sheet s) ≡ opens good decided after m facts list s
       open-past l = checked true (first_untrue xs s) (le-leb (2 ^ length ws) s l) refl
-
-      pub open-untrue : (i : ℕ) → s < 2 ^ length ws → Some i ≡ first_untrue xs s → Err (fault.HouseRule i) ≡ opens good decided after m facts list s
-      open-untrue i l u = checked false (Some i) (lt-leb (2 ^ length ws) s l) u
-
-      pub open-opened : s < 2 ^ length ws → None ≡ first_untrue xs s
-          → Ok (record { house = house ws xs; state = record { sheet = s; parties = [] } }) ≡ opens good decided after m facts list s
-      open-opened l u = checked false None (lt-leb (2 ^ length ws) s l) u

@@ -61,10 +61,6 @@ module _ {C : Type 0} (good : C → SheetSet → List SheetSet → Bool) (decide
   house-kept {b = b} {b' = b'} s =
       ap₂ (λ (k : C) (n : ℕ). house_from k n b'.names b'.rules) s.censor s.number ∙ ap₂ (λ (ns : Names) (rs : SentenceList). house_from b.censor b.number ns rs) s.names s.rules
 
-  -- what a call answers is what is defined of it
-  pub as-answered : {b b' : QueryBox C} {x : Call} {o : Outcome} → Step good decided after b x o b' → Step good decided after b x (outcome (house b) (state_of b) x) b'
-  as-answered {b = b} {b' = b'} {x = x} s = subst (λ (a : Outcome). Step good decided after b x a b') s.answers s
-
   -- a box judges a question, and its slip is the next thing entered: it is not handed back
   pub entered-at-once : {b b' b'' : QueryBox C} {c : ℕ} {t : Text} {sl same back : Slip} → Step good decided after b (Judge c t) (Judged sl) b' → same ≡ sl
       → Step good decided after b' (Enter same) (Unmatched back) b'' → ⊥

@@ -1,13 +1,20 @@
 -- The front of an array, seen through a function g: what reading, writing and adding do to the list that it stands for.
-use Rattle.std.proofs.Common.{◌≡◌, ℕ, zero, suc, ◌+◌, ◌<◌, ◌≤◌, List, [], ◌∷◌, ◌++◌, map, length, get_or, take, set, Some, None, sym, refl, ap, ◌∙◌, arith, length-take}
-use Rattle.std.proofs.lemmas.List.{length-map, map-id, map_push, take_more_set}
+use Rattle.std.proofs.Common.{Bool, true, false, cond, ltb, ◌≡◌, ℕ, zero, suc, ◌+◌, ◌<◌, ◌≤◌, List, [], ◌∷◌, ◌++◌, map, length, get_or, take, set, Some, None, Ok, Option, sym, refl, ap, ◌∙◌, arith, length-take}
+use Rattle.std.proofs.lemmas.List.{length-map, map_push, take_more_set}
 use Rattle.sheets.specs.declared.SheetSet.{SheetSet}
 use Rattle.censors.specs.declared.question.Question.{Question}
 use Rattle.censors.specs.declared.question.Reply.{Reply}
 use Rattle.censors.specs.Questions.{value_in}
 use Rattle.histories.specs.declared.data.Entry.{Entry}
-use Rattle.histories.specs.Calls.{House, Party, at, change, questions, evaluated, remaining, renewed}
-use Rattle.querybox.specs.Parties.{plain_house}
+use Rattle.histories.specs.Calls.{House, Party, State, at, change, questions, evaluated, remaining, renewed}
+use Rattle.histories.specs.declared.data.BoxFault.TheVariants as fault
+use Rattle.querybox.specs.declared.inner.Inner.{Inner}
+use Rattle.querybox.specs.declared.party.Party.{Party as Stored}
+use Rattle.querybox.specs.Entries.{entry_at, parties_of}
+use Rattle.querybox.specs.Looking.{about, found_as, found_in}
+use Rattle.querybox.specs.Parties.{blank, party_of, plain_house}
+use Rattle.std.proofs.lemmas.Bool.{ltb-true, ltb-false}
+use Rattle.std.specs.Option.{ok_or}
 
 module _ {A B : Type 0} (g : A → B) where
   pub view-at : (xs : List A) (n p : ℕ) (d : A) → p < n → n ≤ length xs → at (map g (take n xs)) p ≡ Some (g (get_or xs p d))
@@ -34,15 +41,27 @@ module _ {A B : Type 0} (g : A → B) where
   pub view-push : (xs : List A) (n : ℕ) (y : A) → n < length xs → map g (take (n + 1) (set xs n y)) ≡ map g (take n xs) ++ g y ∷ []
   view-push xs n y l = ap (map g) (take_more_set xs n y l) ∙ map_push g (take n xs) y
 
+-- a counterparty that is found is the entry there
+pub found_at : (st : State) (c : ℕ) {p : Party} → Ok p ≡ found_in st c → at st.parties c ≡ Some p
+found_at st c {p} e = here (at st.parties c) e
+  where
+    here : (o : Option Party) → Ok p ≡ about (λ q. q) c o → o ≡ Some p
+    here (Some q) e = cc
+    here None e = cc
+
+-- what is looked for among the entries is the counterparty at that place
+pub found_here : (x : Inner Stored) (c : ℕ) (o : Option Stored) → o ≡ cond (ltb c x.count) (Some (entry_at x c blank)) None
+    → found_as (ok_or o (fault.NoCounterparty c)) ≡ about (λ p. p) c (at (parties_of x) c)
+found_here x c o = go (ltb c x.count) refl
+  where
+    go : (b : Bool) → ltb c x.count ≡ b → o ≡ cond b (Some (entry_at x c blank)) None → found_as (ok_or o (fault.NoCounterparty c)) ≡ about (λ p. p) c (at (parties_of x) c)
+    go true t e = ap (λ q. found_as (ok_or q (fault.NoCounterparty c))) e ∙ ap (about (λ p. p) c) (sym (view-at party_of x.parties.items x.count c blank (ltb-true c x.count t) (omega (arith, x.few, x.eight))))
+    go false t e = ap (λ q. found_as (ok_or q (fault.NoCounterparty c))) e ∙ ap (about (λ p. p) c) (sym (view-past party_of x.parties.items x.count c (ltb-false c x.count t)))
+
 pub change-set : {A : Type 0} (f : A → A) (xs : List A) (p : ℕ) (d : A) → change f xs p ≡ set xs p (f (get_or xs p d))
 change-set f [] p d = refl
 change-set f (x ∷ xs) zero d = refl
 change-set f (x ∷ xs) (suc p) d = ap (λ zs. x ∷ zs) (change-set f xs p d)
-
--- the same of the array's front itself
-pub front_change : {A : Type 0} (f : A → A) (xs : List A) (n p : ℕ) (d : A) → take n (set xs p (f (get_or xs p d))) ≡ change f (take n xs) p
-front_change f xs n p d =
-    sym (map-id (take n (set xs p (f (get_or xs p d))))) ∙ view-change (λ x. x) f xs n p (f (get_or xs p d)) d refl ∙ ap (λ zs. change f zs p) (map-id (take n xs))
 
 -- a house's number, names and rules play no part in what is judged again
 module _ (h : House) where

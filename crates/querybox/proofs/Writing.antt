@@ -1,13 +1,10 @@
 -- Notes written one after the other into a slice.
-use Rattle.std.proofs.Common.{◌≡◌, ℕ, suc, ◌+◌, ◌-◌, ◌<◌, ◌≤◌, Bool, true, false, cond, List, [], ◌∷◌, ◌++◌, length, get_or, take, drop, set, sym, refl, ap, ◌∙◌, subst, append_assoc, append-nil, arith, length-append, length-take, drop-drop, drop-set-lt}
-use Rattle.std.proofs.lemmas.List.{take_more_set, take_more}
+use Rattle.std.proofs.Common.{◌≡◌, ℕ, suc, ◌+◌, ◌-◌, ◌<◌, ◌≤◌, Bool, true, false, cond, List, [], ◌∷◌, ◌++◌, length, get_or, take, drop, sym, refl, ap, ◌∙◌, subst, append_assoc, append-nil, arith, length-append, length-take, drop-drop}
+use Rattle.std.proofs.lemmas.List.{take_more}
 use Rattle.histories.specs.declared.data.Entry.{Entry}
 use Rattle.histories.specs.declared.data.Note.{Note}
 use Rattle.histories.specs.Calls.{Party, differs, changed, notes}
 use Rattle.querybox.specs.Notes.{Written, note_on}
-
-pub written_one : (old : List Note) (n : ℕ) (x : Note) → n < length old → Written old n (x ∷ []) (n + 1) (set old n x)
-written_one old n x l = record { count = omega arith; front = take_more_set old n x l; rest = drop-set-lt (n + 1) old n x (omega arith) }
 
 -- what is alike from n on is alike from r on
 drop_later : (n r : ℕ) (xs ys : List Note) → n ≤ r → drop n xs ≡ drop n ys → drop r xs ≡ drop r ys
@@ -21,10 +18,6 @@ written_more {old} {mid} {new} {ns} {ms} {n} {m} {r} a b = record {
   front = b.front ∙ ap (λ xs. xs ++ ms) a.front ∙ append_assoc (take n old) ns ms;
   rest = b.rest ∙ drop_later m r mid old (omega (arith, b.count)) a.rest;
 }
-
--- what is written from the front on is as many as the index after the last
-pub counted_notes : {old new ns : List Note} {r : ℕ} → Written old 0 ns r new → r ≡ length (take r new)
-counted_notes {ns = ns} {r = r} w = let n : r ≡ length ns = omega (arith, w.count) in n ∙ ap length (sym w.front)
 
 abbrev note_at : ℕ → ℕ → Entry → Entry → List Note
 note_at c i e e' = note_on e.reply (record { counterparty = c; place = i; reply = e'.reply })
@@ -54,6 +47,14 @@ changed_more {out} {mid} {end} {n} {m} {r} c i old new d d' l l' a b =
     rw (take_more old i d l, take_more new i d' l')
     (changed_push c 0 (take i old) (take i new) (get_or old i d) (get_or new i d') same ∙ ap (λ k. changed c 0 (take i old) (take i new) ++ note_at c k (get_or old i d) (get_or new i d')) s) in
     subst (λ ns. Written out n ns r end) (sym more) (written_more a b)
+
+-- the same, by the entries as they are read from both logs at once
+pub changed_next : {out mid end : List Note} {n m r : ℕ} (c i place : ℕ) (old new : List Entry) (e e' : Entry) → i < length old → i < length new
+    → ◌≡◌ {A = ℕ × (Entry × Entry)} (place, (e, e')) (i, (get_or old i e, get_or new i e'))
+    → Written out n (changed c 0 (take i old) (take i new)) m mid → Written mid m (note_at c place e e') r end
+    → Written out n (changed c 0 (take (i + 1) old) (take (i + 1) new)) r end
+changed_next {mid = mid} {end = end} {m = m} {r = r} c i place old new e e' l l' is a b =
+    changed_more c i old new e e' l l' a (subst (λ (x : ℕ × (Entry × Entry)). Written mid m (note_at c x.0 x.1.0 x.1.1) r end) is b)
 
 -- one counterparty more
 pub notes_push : (k : ℕ) (old new : List Party) (p p' : Party) → length old ≡ length new

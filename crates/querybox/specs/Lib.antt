@@ -1,6 +1,8 @@
+pub mod Room
 pub mod Parties
 pub mod Entries
 pub mod Notes
+pub mod Renewals
 pub mod Slips
 pub mod States
 pub mod Opening

@@ -8,21 +8,17 @@ use Rattle.histories.specs.Calls.{Party, State, at}
 use Rattle.querybox.specs.declared.party.Party as kept
 use Rattle.querybox.specs.declared.inner.Inner.{Inner}
 use Rattle.querybox.specs.Entries.{entry_at}
-use Rattle.querybox.specs.Parties.{blank, party_of, Fits}
+use Rattle.querybox.specs.Parties.{blank, party_of}
 
--- a party, as the calls are defined over it
-abbrev pub party_as : Option kept.Party → Option Party
-party_as (Some p) = Some (party_of p)
-party_as None = None
-
-abbrev pub FoundFits : Option kept.Party → Type 0
-FoundFits (Some p) = Fits p
-FoundFits None = Unit
+-- a party that is found, as the calls are defined over it
+abbrev pub found_as : Result kept.Party BoxFault → Result Party BoxFault
+found_as (Ok p) = Ok (party_of p)
+found_as (Err f) = Err f
 
 -- what is found is the entry of the table
-abbrev pub FoundAt : Inner kept.Party → ℕ → Option kept.Party → Type 0
-FoundAt x c (Some p) = (c < x.count) × (p ≡ entry_at x c blank)
-FoundAt x c None = Unit
+abbrev pub FoundAt : Inner kept.Party → ℕ → Result kept.Party BoxFault → Type 0
+FoundAt x c (Ok p) = (c < x.count) × (p ≡ entry_at x c blank)
+FoundAt x c (Err f) = Unit
 
 -- what f says of the counterparty c
 abbrev pub about : {A : Type 0} → (Party → A) → ℕ → Option Party → Result A BoxFault
@@ -36,6 +32,10 @@ reply_at i p = at (map (λ e. e.reply) p.log) i
 -- how many sheets the record has
 abbrev pub sheets_left : Party → ℕ
 sheets_left p = count (mem p.known) 256
+
+-- the counterparty c itself
+abbrev pub found_in : State → ℕ → Result Party BoxFault
+found_in st c = about (λ p. p) c (at st.parties c)
 
 abbrev pub held_in : State → ℕ → ℕ → Result (Option Reply) BoxFault
 held_in st c i = about (reply_at i) c (at st.parties c)

@@ -1,7 +1,6 @@
 // A box: a sheet, and the counterparties that put questions about it under one censor.
-ghost use Rattle.std.specs.Prelude.{◌≡◌, ◌^◌, ◌<◌, ◌≤◌, length};
+ghost use Rattle.std.specs.Prelude.{◌^◌, ◌<◌, length};
 ghost use Rattle.sentences.specs.Naming.{words};
-ghost use Rattle.querybox.specs.Entries.{AllFit};
 
 use super::inner::Inner;
 use super::party::Party;
@@ -23,8 +22,5 @@ pub struct QueryBox<C> {
     rules: SentenceList,
     sheet: u16,
     inner: Inner<Party>,
-    ghost few: { inner.count ≤ 8 },
-    ghost eight: { length inner.parties.items ≡ 8 },
-    ghost fit: { AllFit inner },
     ghost small: { sheet < 2 ^ length (words names) },
 }

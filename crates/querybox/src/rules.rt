@@ -12,22 +12,12 @@ use sheets::SheetSet;
 pub(crate) fn untrue_rule(rules: &SentenceList, sheet: u16) -> Option<usize>
     ensures { result ≡ first_untrue (sets_of rules.now) sheet }
 {
-    let sets = rules.sets();
-    for index in 0..sets.len() {
-        if !sets[index].has(sheet) {
-            return Some(index);
-        }
-    }
-    None
+    rules.sets().iter().position(|set| !set.has(sheet))
 }
 
 // The sheets of the box that keep all rules.
 pub(crate) fn lawful_sheets(names: &Names, rules: &SentenceList) -> SheetSet
     ensures { result ≡ keeping (length (words names.now)) (sets_of rules.now) }
 {
-    let mut left = SheetSet::below(names.count());
-    for set in rules.sets() {
-        left = left.meet(set);
-    }
-    left
+    rules.keeping(names)
 }

@@ -5,11 +5,11 @@ ghost use Rattle.querybox.specs.Amending.{amended_as, written};
 ghost use Rattle.querybox.specs.States.{Step};
 
 use super::super::changes::{amended_sheet, first_bad_change, first_slip_out};
-use super::super::renewal::renew_all;
+use super::super::renewal::Renewal;
 use super::super::rules::untrue_rule;
 use super::QueryBox;
 use censors::censor::Censor;
-use histories::data::{AmendFault, BoxFault, Change, Note};
+use histories::data::{AmendFault, BoxFault, Change, MOST_NOTES, Note};
 
 impl<C: Censor> QueryBox<C> {
     // The listed facts get their new values; every log is judged again, and a note is written on each reply that has changed. The number of notes is returned.
@@ -21,19 +21,22 @@ impl<C: Censor> QueryBox<C> {
         if let Some(counterparty) = first_slip_out(&self.inner) {
             return Err(BoxFault::SlipOut(counterparty));
         }
-        // Eight logs of 64 questions: a note on every one has room.
-        if notes.len() < 512 {
+        if notes.len() < MOST_NOTES {
             return Err(BoxFault::ShortNotes);
         }
         let facts = self.names.count();
         if let Some(index) = first_bad_change(facts, changes) {
-            return Err(BoxFault::Amendment(AmendFault::Fact(index)));
+            return Err(AmendFault::Fact(index).into());
         }
         let sheet = amended_sheet(facts, self.sheet, changes);
         if let Some(index) = untrue_rule(&self.rules, sheet) {
-            return Err(BoxFault::Amendment(AmendFault::HouseRule(index)));
+            return Err(AmendFault::HouseRule(index).into());
         }
-        let count = renew_all(&self.censor, &mut self.inner, sheet, notes);
+        let renewal = Renewal {
+            censor: &self.censor,
+            sheet,
+        };
+        let count = renewal.renew_all(&mut self.inner, notes);
         self.sheet = sheet;
         Ok(count)
     }

@@ -8,7 +8,7 @@ use super::super::party::Party;
 use super::super::rules::lawful_sheets;
 use super::QueryBox;
 use censors::censor::Censor;
-use histories::data::BoxFault;
+use histories::data::{BoxFault, COUNTERPARTIES};
 use sentences::cuts::CutList;
 use sentences::lists::SentenceList;
 use sentences::reading::parse;
@@ -20,21 +20,15 @@ impl<C: Censor> QueryBox<C> {
         ensures { Step C.Censor.good C.Censor.decided C.Censor.after self.old (Enrol (prior_text prior.entry) secrets.now) (enrolled_as result) self.new }
     {
         let place = self.inner.count;
-        if place >= 8 {
+        if place >= COUNTERPARTIES {
             return Err(BoxFault::Full);
         }
-        let start = match self.start_from(prior) {
-            Ok(start) => start,
-            Err(fault) => return Err(fault),
-        };
-        let secrets = match SentenceList::secrets(&self.names, secrets) {
-            Ok(secrets) => secrets,
-            Err(fault) => return Err(BoxFault::Secrets(fault)),
-        };
+        let start = self.start_from(prior)?;
+        let secrets = SentenceList::secrets(&self.names, secrets).map_err(BoxFault::Secrets)?;
         if !self.censor.is_good(&start, secrets.sets()) {
             return Err(BoxFault::NotGood);
         }
-        self.inner.add(Party::new(start, &secrets));
+        self.inner.add(Party::new(start, secrets));
         Ok(place)
     }
 
@@ -46,9 +40,7 @@ impl<C: Censor> QueryBox<C> {
         let Some(text) = prior else {
             return Ok(lawful);
         };
-        match parse(&self.names, text) {
-            Ok(meaning) => Ok(lawful.meet(&meaning.sheets)),
-            Err(fault) => Err(BoxFault::Prior(fault)),
-        }
+        let meaning = parse(&self.names, text).map_err(BoxFault::Prior)?;
+        Ok(lawful.meet(&meaning.sheets))
     }
 }

@@ -11,14 +11,14 @@ use censors::question::Reply;
 
 impl<C: Censor> QueryBox<C> {
     // Question and reply go into the log, the record becomes the censor's new one, and only then is the reply given out.
-    // A slip that does not match is handed back.
+    // A slip that does not match is handed back: by `let .. else`, since a combinator would have to let it go.
     pub fn enter(&mut self, slip: Slip) -> Result<Reply, Slip>
         ensures { Step C.Censor.good C.Censor.decided C.Censor.after self.old (Enter (slip_of slip)) (entered_as result) self.new }
     {
-        let Some(party) = self.party(slip.counterparty) else {
+        let Ok(party) = self.party(slip.counterparty) else {
             return Err(slip);
         };
-        if slip.number != self.number || slip.place != party.entered {
+        if slip.number != self.number || slip.place != party.log.len() {
             return Err(slip);
         }
         let Some(pending) = party.pending else {
@@ -27,7 +27,7 @@ impl<C: Censor> QueryBox<C> {
         let reply = pending.decision.reply;
         let known = self.censor.record_after(
             &party.known,
-            party.secret_sets(),
+            party.secrets.sets(),
             &pending.question,
             reply,
         );

@@ -7,7 +7,7 @@ use super::super::slip::Slip;
 use super::QueryBox;
 use censors::censor::Censor;
 use censors::question::Question;
-use histories::data::BoxFault;
+use histories::data::{BoxFault, PLACES};
 use sentences::reading::parse;
 
 impl<C: Censor> QueryBox<C> {
@@ -15,28 +15,25 @@ impl<C: Censor> QueryBox<C> {
     pub fn judge(&mut self, counterparty: usize, text: &[u8]) -> Result<Slip, BoxFault>
         ensures { Step C.Censor.good C.Censor.decided C.Censor.after self.old (Judge counterparty text.now) (judged_as result) self.new }
     {
-        let Some(party) = self.party(counterparty) else {
-            return Err(BoxFault::NoCounterparty(counterparty));
-        };
+        let party = self.party(counterparty)?;
         if party.pending.is_some() {
             return Err(BoxFault::SlipOut(counterparty));
         }
-        if party.entered >= 64 {
+        let place = party.log.len();
+        if place >= PLACES {
             return Err(BoxFault::LogFull);
         }
-        let question = match parse(&self.names, text) {
-            Ok(meaning) => Question::new(meaning.sheets),
-            Err(fault) => return Err(BoxFault::Question(fault)),
-        };
+        let meaning = parse(&self.names, text).map_err(BoxFault::Question)?;
+        let question = Question::new(meaning.sheets);
         let value = question.value_in(self.sheet);
         let decision = self
             .censor
-            .decide(&party.known, party.secret_sets(), &question, value);
+            .decide(&party.known, party.secrets.sets(), &question, value);
         keep(&mut self.inner, counterparty, question, decision);
         Ok(Slip {
             number: self.number,
             counterparty,
-            place: party.entered,
+            place,
         })
     }
 }

@@ -12,7 +12,7 @@ use histories::data::BoxFault;
 use sentences::cuts::CutList;
 use sentences::lists::SentenceList;
 use sentences::names::Names;
-use tables::Table;
+use sheets::SheetSet;
 
 impl<C: Censor + Drop> QueryBox<C> {
     // A box with no counterparty on the sheet, or the first fault: of the names, the house rules, then the sheet.
@@ -28,31 +28,23 @@ impl<C: Censor + Drop> QueryBox<C> {
         ensures censor { elim result [ Ok b ↦ b.censor ≡ censor | Err f ↦ Unit ] }
         ensures promise { elim result [ Ok b ↦ Promise C.Censor.good C.Censor.decided C.Censor.after b | Err f ↦ Unit ] }
     {
-        let names = match Names::parse(names) {
-            Ok(names) => names,
-            Err(fault) => return Err(BoxFault::Names(fault)),
-        };
-        let rules = match SentenceList::house_rules(&names, rules) {
-            Ok(rules) => rules,
-            Err(fault) => return Err(BoxFault::HouseRules(fault)),
-        };
+        let names = Names::parse(names).map_err(BoxFault::Names)?;
+        let rules = SentenceList::house_rules(&names, rules).map_err(BoxFault::HouseRules)?;
         if sheet >= 1 << names.count() {
             return Err(BoxFault::Sheet(sheet));
         }
         if let Some(index) = untrue_rule(&rules, sheet) {
             return Err(BoxFault::HouseRule(index));
         }
-        let inner = Inner {
-            count: 0,
-            parties: Table::new([Party::blank(); 8]),
-        };
+        // No counterparty counts yet, so it does not matter which one fills the table.
+        let nobody = Party::new(SheetSet::empty(), rules);
         Ok(QueryBox {
             censor,
             number,
             names,
             rules,
             sheet,
-            inner,
+            inner: Inner::new(nobody),
         })
     }
 }

@@ -1,16 +1,12 @@
-use Rattle.std.proofs.Common.{◌≡◌, ◌≤◌, false, length, Some, sym, ap, ◌∙◌, arith, below_more}
-use Rattle.querybox.proofs.SlipsOut.{out, none_out, first_out}
+use Rattle.std.proofs.Common.{◌≡◌, true, false, rules, arith}
+use borrow.Author.Tests.{tests}
+use Rattle.std.proofs.lemmas.Iterator.{first_from_Range}
+use Rattle.querybox.proofs.SlipsOut.{out, found_out}
 use Rattle.querybox.proofs.changes.first_slip_out.Goals as goal
 
-pub returns-then-has_slip_out : goal.returns-then-has_slip_out
-returns-then-has_slip_out c =
-    let xs = c.args.inner.now.parties.items in
-    let room : c.args.inner.now.count ≤ length xs = omega (arith, c.requires.few, c.requires.eight) in
-    ap Some (omega arith)
-    ∙ sym (first_out 0 c.args.inner.now.count c.loop-party.party xs c.loop-party.invariant (sym c.if-has_slip_out.ensures) c.loop-party-test.true room)
-
-pub loop-party-preserved : goal.loop-party-preserved
-loop-party-preserved c = below_more (λ k. out c.args.inner.now.parties.items k ≡ false) c.loop-party.party c.loop-party.invariant (sym c.if-has_slip_out.ensures)
-
 pub returns : goal.returns
-returns c = sym (none_out 0 c.args.inner.now.count c.args.inner.now.parties.items (λ k l. c.loop-party.invariant k (omega arith)))
+returns c =
+    let xs = c.args.inner.now.parties.items in
+    found_out c.args.inner.now.count xs c.find.result (omega (arith, c.args.inner.now.few, c.args.inner.now.eight))
+    (first_from_Range (record { start = 0; end = c.args.inner.now.count }) _ _ c.find.result (λ k. out xs k ≡ true) (λ k. out xs k ≡ false) c.find.ensures.ran
+    (λ x q k. search (rules, tests)) (λ x q k. search (rules, tests)))

@@ -1,18 +1,13 @@
-use Rattle.std.proofs.Common.{◌≡◌, sym, refl, ap, ◌∙◌, arith}
-use Rattle.histories.specs.Calls.{listed_before}
-use Rattle.querybox.proofs.ListedFacts.{unlisted-more, listed_at}
+use Rattle.std.proofs.Common.{rules, eqb, ◌∙◌}
+use borrow.Author.Tests.{tests}
+use Rattle.std.proofs.lemmas.Iterator.{YieldsList-from_slice, YieldsList-from_take}
+use Rattle.std.proofs.lemmas.Iterator.Search.{any_from_yields_List}
+use Rattle.histories.specs.declared.data.Change.{Change}
+use Rattle.querybox.proofs.ListedFacts.{listed_any}
 use Rattle.querybox.proofs.changes.is_listed_before.Goals as goal
-
-pub loop-index-init : goal.loop-index-init
-loop-index-init c = refl
-
-pub returns-then-changes-index : goal.returns-then-changes-index
-returns-then-changes-index c = sym (listed_at c.args.fact c.args.changes.now c.args.end c.loop-index.index c.if-changes-index.true c.loop-index-test.true)
-
-pub loop-index-preserved : goal.loop-index-preserved
-loop-index-preserved c = unlisted-more c.args.fact c.args.changes.now c.loop-index.index c.loop-index.invariant c.if-changes-index.false
 
 pub returns : goal.returns
 returns c =
-    let done : c.loop-index.index ≡ c.args.end = omega arith in
-    sym c.loop-index.invariant ∙ ap (listed_before c.args.fact c.args.changes.now) done
+    any_from_yields_List (λ (x : Change). eqb c.args.fact x.fact) _ _ _ c.any.ensures.ran
+    (YieldsList-from_take c.args.end (YieldsList-from_slice c.args.changes.now (cc)) (cc)) (λ x b q k. search (rules, tests))
+    ∙ listed_any c.args.fact c.args.changes.now c.args.end c.requires
