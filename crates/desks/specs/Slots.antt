@@ -1,6 +1,6 @@
 -- The slips that are kept: at the place of each counterparty, the slip that is out for it.
-use Rattle.std.specs.Prelude.{◌≡◌, ℕ, Bool, true, false, ◌&&◌, List, length, Some, None, Option, ◌==◌, slice_index_or, slice_set}
-use Rattle.histories.specs.Calls.{Party, at, is_some}
+use Rattle.std.specs.Prelude.{◌≡◌, ℕ, Bool, true, false, ◌&&◌, List, length, is_some, Some, None, Option, ◌==◌, slice_index_or, slice_set}
+use Rattle.histories.specs.Calls.{Party, at}
 use Rattle.querybox.specs.declared.slip.Slip.{Slip}
 
 -- the slip kept for a counterparty
@@ -16,16 +16,16 @@ abbrev pub awaited : ℕ → Option Party → Bool
 awaited k None = false
 awaited k (Some p) = k == length p.log && is_some p.pending
 
--- what is kept for the counterparty c of a box with this number is nothing, or the slip that is out for it
-abbrev pub is_out : ℕ → ℕ → Option Party → Option Slip → Bool
-is_out number c o None = true
-is_out number c o (Some s) = s.number == number && (s.counterparty == c && awaited s.place o)
-
--- each slip that is kept is out
-abbrev pub AllOut : ℕ → List Party → List (Option Slip) → Type 0
-AllOut number ps xs = (c : ℕ) → is_out number c (at ps c) (slip_at xs c) ≡ true
-
--- what is kept is nothing, or a slip that is out for its counterparty
+-- what is kept is nothing, or a slip that a box with this number awaits
 abbrev pub is_awaited : ℕ → List Party → Option Slip → Bool
 is_awaited number ps None = true
 is_awaited number ps (Some s) = s.number == number && awaited s.place (at ps s.counterparty)
+
+-- what is kept is nothing, or a slip of the counterparty c
+abbrev pub is_for : ℕ → Option Slip → Bool
+is_for c None = true
+is_for c (Some s) = s.counterparty == c
+
+-- each slip that is kept is at the place of its counterparty, and awaited
+abbrev pub AllOut : ℕ → List Party → List (Option Slip) → Type 0
+AllOut number ps xs = (c : ℕ) → is_for c (slip_at xs c) && is_awaited number ps (slip_at xs c) ≡ true

@@ -9,12 +9,10 @@ ghost use Rattle.desks.specs.Answers.{face_given, with_judged, face_kept};
 ghost use Rattle.desks.specs.Slots.{slip_at};
 
 use super::Desk;
-use super::slots::{put_slip, take_slip};
 use censors::censor::Censor;
 use censors::question::Reply;
 use histories::data::{BoxFault, Change, Note};
 use histories::refusals::SlipFace;
-use querybox::slip::ReadSlip;
 use sentences::cuts::CutList;
 
 impl<C: Censor> Desk<C> {
@@ -29,41 +27,20 @@ impl<C: Censor> Desk<C> {
     pub fn judge(&mut self, counterparty: usize, text: &[u8]) -> Result<SlipFace, BoxFault>
         ensures answers { Some result ≡ face_given (outcome_of (house_of C.Censor.good C.Censor.decided C.Censor.after self.old.query_box) (state_of self.old.query_box) (Judge counterparty text.now)) }
         ensures step { Step C.Censor.good C.Censor.decided C.Censor.after self.old.query_box (Judge counterparty text.now) (outcome_of (house_of C.Censor.good C.Censor.decided C.Censor.after self.old.query_box) (state_of self.old.query_box) (Judge counterparty text.now)) self.new.query_box }
-        ensures slips { self.new.slips.items ≡ with_judged self.old.slips.items (outcome_of (house_of C.Censor.good C.Censor.decided C.Censor.after self.old.query_box) (state_of self.old.query_box) (Judge counterparty text.now)) }
+        ensures slips { self.new.slips ≡ with_judged self.old.slips (outcome_of (house_of C.Censor.good C.Censor.decided C.Censor.after self.old.query_box) (state_of self.old.query_box) (Judge counterparty text.now)) }
     {
-        let slip = match self.query_box.judge(counterparty, text) {
-            Ok(slip) => slip,
-            Err(fault) => return Err(fault),
-        };
-        let ReadSlip {
-            slip,
-            counterparty: party,
-            place,
-        } = slip.read();
-        put_slip(&mut self.slips, party, slip);
-        Ok(SlipFace {
-            counterparty: party,
-            place,
-        })
+        let slip = self.query_box.judge(counterparty, text)?;
+        Ok(self.slips.keep(slip))
     }
 
     // What is written on the slip that is kept for the counterparty, if there is one. It is kept on.
     pub fn read(&mut self, counterparty: usize) -> Option<SlipFace>
-        ensures answers { result ≡ face_kept (slip_at self.old.slips.items counterparty) }
+        ensures answers { result ≡ face_kept (slip_at self.old.slips counterparty) }
         ensures leaves { self.new.query_box ≡ self.old.query_box }
-        ensures slips { self.new.slips.items ≡ self.old.slips.items }
+        ensures slips { self.new.slips ≡ self.old.slips }
     {
-        let slip = take_slip(&mut self.slips, counterparty)?;
-        let ReadSlip {
-            slip,
-            counterparty: party,
-            place,
-        } = slip.read();
-        put_slip(&mut self.slips, party, slip);
-        Some(SlipFace {
-            counterparty: party,
-            place,
-        })
+        let slip = self.slips.take(counterparty)?;
+        Some(self.slips.keep(slip))
     }
 
     pub fn amend(&mut self, changes: &[Change], notes: &mut [Note]) -> Result<usize, BoxFault>

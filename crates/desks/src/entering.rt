@@ -1,28 +1,25 @@
 // Entering slips that are kept.
-ghost use Rattle.std.specs.Prelude.{◌≡◌, if◌then◌else◌, slice_set};
+ghost use Rattle.std.specs.Prelude.{◌≡◌, true, if◌then◌else◌, slice_set};
 ghost use Rattle.querybox.specs.States.{state_of, house_of};
 ghost use Rattle.desks.specs.Answers.{replied, is_taken, entry_of, Entered};
-ghost use Rattle.desks.specs.Slots.{slip_at, without};
+ghost use Rattle.desks.specs.Slots.{slip_at, without, is_awaited};
 
 use super::Desk;
-use super::slots::{move_slip, put_slip, take_slip};
 use censors::censor::Censor;
 use censors::question::Reply;
-use histories::refusals::{BoxRefusal, SlipFace};
-use querybox::slip::ReadSlip;
+use histories::refusals::BoxRefusal;
+use querybox::query_box::QueryBox;
+use querybox::slip::Slip;
 
 impl<C: Censor> Desk<C> {
     // Enters the slip that is kept for the counterparty, if there is one.
     pub fn enter(&mut self, counterparty: usize) -> Option<Reply>
-        ensures answers { replied result ≡ entry_of (house_of C.Censor.good C.Censor.decided C.Censor.after self.old.query_box) (state_of self.old.query_box) (slip_at self.old.slips.items counterparty) }
-        ensures enters { Entered C.Censor.good C.Censor.decided C.Censor.after self.old.query_box (slip_at self.old.slips.items counterparty) self.new.query_box }
-        ensures slips { self.new.slips.items ≡ without self.old.slips.items counterparty }
+        ensures answers { replied result ≡ entry_of (house_of C.Censor.good C.Censor.decided C.Censor.after self.old.query_box) (state_of self.old.query_box) (slip_at self.old.slips counterparty) }
+        ensures enters { Entered C.Censor.good C.Censor.decided C.Censor.after self.old.query_box (slip_at self.old.slips counterparty) self.new.query_box }
+        ensures slips { self.new.slips ≡ without self.old.slips counterparty }
     {
-        let slip = take_slip(&mut self.slips, counterparty)?;
-        match self.query_box.enter(slip) {
-            Ok(reply) => Some(reply),
-            Err(_slip) => unreachable(),
-        }
+        let kept = self.slips.take(counterparty);
+        enter_kept(&mut self.query_box, kept)
     }
 
     // Puts the slip that the other desk keeps for the counterparty, if there is one, into this box.
@@ -32,31 +29,35 @@ impl<C: Censor> Desk<C> {
         other: &mut Desk<C>,
         counterparty: usize,
     ) -> Option<Result<Reply, BoxRefusal>>
-        ensures answers { result ≡ entry_of (house_of C.Censor.good C.Censor.decided C.Censor.after self.old.query_box) (state_of self.old.query_box) (slip_at other.old.slips.items counterparty) }
-        ensures enters { Entered C.Censor.good C.Censor.decided C.Censor.after self.old.query_box (slip_at other.old.slips.items counterparty) self.new.query_box }
+        ensures answers { result ≡ entry_of (house_of C.Censor.good C.Censor.decided C.Censor.after self.old.query_box) (state_of self.old.query_box) (slip_at other.old.slips counterparty) }
+        ensures enters { Entered C.Censor.good C.Censor.decided C.Censor.after self.old.query_box (slip_at other.old.slips counterparty) self.new.query_box }
         ensures other { other.new.query_box ≡ other.old.query_box }
-        ensures slips { self.new.slips.items ≡ (if is_taken result then without self.old.slips.items counterparty else self.old.slips.items) }
-        ensures others { other.new.slips.items ≡ (if is_taken result then slice_set other.old.slips.items counterparty (slip_at self.old.slips.items counterparty) else other.old.slips.items) }
+        ensures slips { self.new.slips ≡ (if is_taken result then without self.old.slips counterparty else self.old.slips) }
+        ensures others { other.new.slips ≡ (if is_taken result then slice_set other.old.slips counterparty (slip_at self.old.slips counterparty) else other.old.slips) }
     {
-        let slip = take_slip(&mut other.slips, counterparty)?;
+        let slip = other.slips.take(counterparty)?;
         match self.query_box.enter(slip) {
             Ok(reply) => {
-                move_slip(&mut self.slips, &mut other.slips, counterparty);
+                self.slips.exchange(&mut other.slips, counterparty);
                 Some(Ok(reply))
             }
-            Err(slip) => {
-                let ReadSlip {
-                    slip,
-                    counterparty: party,
-                    place,
-                } = slip.read();
-                put_slip(&mut other.slips, party, slip);
-                let face = SlipFace {
-                    counterparty: party,
-                    place,
-                };
-                Some(Err(face.refusal()))
-            }
+            Err(slip) => Some(Err(other.slips.keep(slip).refusal())),
         }
+    }
+}
+
+// Enters a slip that the box awaits, if there is one.
+pub(super) fn enter_kept<C: Censor>(
+    query_box: &mut QueryBox<C>,
+    kept: Option<Slip>,
+) -> Option<Reply>
+    requires { is_awaited query_box.old.number (state_of query_box.old).parties kept ≡ true }
+    ensures answers { replied result ≡ entry_of (house_of C.Censor.good C.Censor.decided C.Censor.after query_box.old) (state_of query_box.old) kept }
+    ensures enters { Entered C.Censor.good C.Censor.decided C.Censor.after query_box.old kept query_box.new }
+{
+    match query_box.enter(kept?) {
+        Ok(reply) => Some(reply),
+        // a match, since an `unwrap` would have to let a slip go
+        Err(_slip) => unreachable(),
     }
 }

@@ -1,12 +1,11 @@
 // A box with the slips that it has handed out: a program that takes calls from outside keeps them here until they are entered.
 #![tactic(auto)]
 
-ghost use Rattle.std.specs.Prelude.{◌≡◌, vec_len};
 ghost use Rattle.querybox.specs.States.{state_of};
 ghost use Rattle.desks.specs.Slots.{AllOut};
 
 use querybox::query_box::QueryBox;
-use querybox::slip::Slip;
+use slots::Slots;
 
 pub mod calls;
 pub mod entering;
@@ -16,7 +15,6 @@ pub(crate) mod slots;
 // A box, and at the place of each counterparty the slip that is out for it. Each slip that is kept is taken by the box.
 pub struct Desk<C> {
     query_box: QueryBox<C>,
-    slips: Vec<Option<Slip>>,
-    ghost eight: { vec_len slips ≡ 8 },
-    ghost out: { AllOut query_box.number (state_of query_box).parties slips.items },
+    slips: Slots,
+    ghost out: { AllOut query_box.number (state_of query_box).parties slips },
 }

@@ -1,52 +1,83 @@
 // The slips that are kept, each at the place of its counterparty.
-ghost use Rattle.std.specs.Prelude.{◌≡◌, ◌<◌, Some, None, vec_len, slice_set};
+ghost use Rattle.std.specs.Prelude.{◌≡◌, ℕ, ◌<◌, Some, None, IfOk, slice_set};
+ghost use Rattle.histories.specs.Refusals.{face_of};
+ghost use Rattle.querybox.specs.Slips.{slip_of};
 ghost use Rattle.desks.specs.Slots.{slip_at, without};
 
-use querybox::slip::Slip;
+use histories::data::COUNTERPARTIES;
+use histories::refusals::SlipFace;
+use querybox::slip::{ReadSlip, Slip};
+use std::alloc::{AllocError, Global};
+use std::marker::Model;
+use std::mem;
 
-// Takes out the slip kept for the counterparty.
-pub(crate) fn take_slip(slips: &mut Vec<Option<Slip>>, counterparty: usize) -> Option<Slip>
-    ensures value { result ≡ slip_at slips.old.items counterparty }
-    ensures items { slips.new.items ≡ without slips.old.items counterparty }
-    ensures len { vec_len slips.new ≡ vec_len slips.old }
-{
-    match slips.get_mut(counterparty) {
-        Some(kept) => kept.take(),
-        None => None,
-    }
+pub(crate) struct Slots {
+    pub(crate) places: Vec<Option<Slip>>,
 }
 
-// Keeps the slip where none is kept.
-pub(crate) fn put_slip(slips: &mut Vec<Option<Slip>>, counterparty: usize, slip: Slip)
-    requires within { counterparty < vec_len slips.old }
-    requires empty { slip_at slips.old.items counterparty ≡ None }
-    ensures items { slips.new.items ≡ slice_set slips.old.items counterparty (Some slip) }
-    ensures len { vec_len slips.new ≡ vec_len slips.old }
-{
-    match slips.get_mut(counterparty) {
-        Some(kept) => match kept.replace(slip) {
+// Clauses see what is kept at each place.
+impl Model for Slots {
+    ghost use Rattle.std.specs.Prelude.{◌≡◌, List, Option, vec_len};
+    ghost use Rattle.querybox.specs.declared.slip.Slip.{Slip};
+
+    ghost Value = { List (Option Slip) };
+
+    ghost view = { λ s. s.places.items };
+
+    ghost invariant = { λ s. vec_len s.places ≡ 8 };
+}
+
+impl Slots {
+    // Places that keep no slip.
+    pub(crate) fn new(heap: Global) -> Result<Slots, AllocError>
+        ensures { IfOk result (λ s. (c : ℕ) → slip_at s c ≡ None) }
+    {
+        let mut places = Vec::with_capacity(heap, COUNTERPARTIES)?;
+        for _ in 0..COUNTERPARTIES {
+            places.push_reserved(None);
+        }
+        Ok(Slots { places })
+    }
+
+    // Takes out the slip kept for the counterparty.
+    pub(crate) fn take(&mut self, counterparty: usize) -> Option<Slip>
+        ensures value { result ≡ slip_at self.old counterparty }
+        ensures left { self.new ≡ without self.old counterparty }
+    {
+        self.places.get_mut(counterparty)?.take()
+    }
+
+    // Keeps the slip for its counterparty, where none is kept, and tells what is written on it.
+    pub(crate) fn keep(&mut self, slip: Slip) -> SlipFace
+        requires within { slip.counterparty < 8 }
+        requires empty { slip_at self.old slip.counterparty ≡ None }
+        ensures face { result ≡ face_of (slip_of slip) }
+        ensures kept { self.new ≡ slice_set self.old slip.counterparty (Some slip) }
+    {
+        let ReadSlip {
+            slip,
+            counterparty,
+            place,
+        } = slip.read();
+        match self.places[counterparty].replace(slip) {
+            // a match, since an `assert` would have to let a slip go
             Some(_old) => unreachable(),
-            None => {}
-        },
-        None => unreachable(),
+            None => SlipFace {
+                counterparty,
+                place,
+            },
+        }
     }
-}
 
-// Moves the slip kept for the counterparty, if there is one, to where none is kept.
-pub(crate) fn move_slip(
-    from: &mut Vec<Option<Slip>>,
-    to: &mut Vec<Option<Slip>>,
-    counterparty: usize,
-)
-    requires within { counterparty < vec_len to.old }
-    requires empty { slip_at to.old.items counterparty ≡ None }
-    ensures from { from.new.items ≡ without from.old.items counterparty }
-    ensures from_len { vec_len from.new ≡ vec_len from.old }
-    ensures to { to.new.items ≡ slice_set to.old.items counterparty (slip_at from.old.items counterparty) }
-    ensures to_len { vec_len to.new ≡ vec_len to.old }
-{
-    match take_slip(from, counterparty) {
-        Some(slip) => put_slip(to, counterparty, slip),
-        None => {}
+    // Exchanges what the two keep for the counterparty.
+    pub(crate) fn exchange(&mut self, other: &mut Slots, counterparty: usize)
+        requires { counterparty < 8 }
+        ensures own { self.new ≡ slice_set self.old counterparty (slip_at other.old counterparty) }
+        ensures others { other.new ≡ slice_set other.old counterparty (slip_at self.old counterparty) }
+    {
+        mem::swap(
+            &mut self.places[counterparty],
+            &mut other.places[counterparty],
+        );
     }
 }
