@@ -1,8 +1,9 @@
 // Texts put together piece by piece, as a box takes them: one block with a pair for each.
 #![tactic(auto)]
 
-ghost use Rattle.std.specs.Prelude.{◌≡◌, ◌+◌, ◌-◌, ◌^◌, ◌<◌, min, true, false, ◌⊎◌, [], ◌∷◌, ◌++◌, length, is_ok, IfOk, if◌then◌else◌, MatchOption, OnErr, OnOk};
-ghost use Rattle.pieces.specs.Pairs.{fits};
+ghost use Rattle.std.specs.Prelude.{◌≡◌, ◌+◌, ◌-◌, ◌^◌, ◌<◌, min, true, false, ◌⊎◌, [], ◌∷◌, ◌++◌, length, is_ok, IfOk, if◌then◌else◌, MatchOption, map, nat_eq, OnErr, OnOk};
+ghost use Rattle.pieces.specs.Held.{Holds};
+ghost use Rattle.pieces.specs.Pairs.{all_fit, fits};
 
 use sentences::cuts::{Cut, CutList};
 use std::alloc::{AllocError, Global};
@@ -12,7 +13,7 @@ use std::alloc::{AllocError, Global};
 pub struct Pieces {
     block: Vec<u8>,
     cuts: Vec<Cut>,
-    // how many pieces lie beyond what the 16 bits of a pair can say
+    // How many pieces lie beyond what the 16 bits of a pair can say. They are no error of `add`, since those after them still get their index.
     left_out: usize,
 }
 
@@ -27,6 +28,18 @@ impl Pieces {
             cuts: Vec::new(heap),
             left_out: 0,
         }
+    }
+
+    // The texts, each a piece.
+    pub fn of(heap: Global, texts: &[&str]) -> Result<Pieces, AllocError>
+        ensures whole { IfOk result (λ pieces. nat_eq pieces.left_out 0 ≡ all_fit 0 (map (λ text. text.now) texts.now)) }
+        ensures held { IfOk result (λ pieces. pieces.left_out ≡ 0 → Holds pieces.block.items pieces.cuts.items (map (λ text. text.now) texts.now)) }
+    {
+        let mut pieces = Pieces::new(heap);
+        for text in texts {
+            pieces.add(text.as_bytes())?;
+        }
+        Ok(pieces)
     }
 
     // Adds a piece and answers its index. Where memory runs out the list stays as it is, at most with bytes behind it in the block.
@@ -64,5 +77,22 @@ impl Pieces {
             block: self.block.as_slice(),
             cuts: self.cuts.as_slice(),
         })
+    }
+}
+
+#[cfg(test)]
+mod tests {
+    use super::*;
+    use std::test::Fail;
+
+    #[test]
+    fn texts_one_after_the_other(rt: HostRuntime) -> Result<(), Fail> {
+        let pieces = Pieces::of(rt.alloc(), &["full", "", "late"])?;
+        let Some(list) = pieces.list() else {
+            return Err(Fail::new("a text was left out"));
+        };
+        assert_eq!(rt; list.block, b"fulllate".as_slice());
+        assert_eq!(rt; list.cuts.len(), 3);
+        Ok(())
     }
 }

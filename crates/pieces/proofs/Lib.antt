@@ -1,0 +1,2 @@
+pub mod Gathered
+mod Held
