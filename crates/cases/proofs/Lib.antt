@@ -1,3 +1,1 @@
-mod Held
-mod Members
 mod Named

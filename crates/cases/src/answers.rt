@@ -1,11 +1,10 @@
 // What the library answers in a case.
 ghost use Rattle.std.specs.Prelude.{◌≡◌, IfOk, None};
 ghost use Rattle.sentences.specs.declared.faults.Returned.TheVariants.{Place};
-ghost use Rattle.cases.specs.Readings.{AnswersReading, members_below};
+ghost use Rattle.cases.specs.Readings.{AnswersReading};
 
 use sentences::faults::{Refusal, Returned, SentenceFault};
 use sentences::reading::Meaning;
-use sheets::SheetSet;
 use std::alloc::{AllocError, Global};
 use std::fmt;
 
@@ -30,7 +29,7 @@ impl Answer {
         ensures { IfOk result (λ a. AnswersReading read a) }
     {
         match read {
-            Ok(meaning) => Ok(Answer::Meaning(members(heap, &meaning.sheets)?, meaning.tokens)),
+            Ok(meaning) => Ok(Answer::Meaning(meaning.sheets.members(heap)?, meaning.tokens)),
             Err(fault) => Ok(Answer::Refused(fault.refusal())),
         }
     }
@@ -49,19 +48,6 @@ pub fn refused_at(number: u8, place: usize) -> Refusal
     }
 }
 
-// The sheets of the set, in their order.
-fn members(heap: Global, set: &SheetSet) -> Result<Vec<u16>, AllocError>
-    ensures { IfOk result (λ v. v.items ≡ members_below set.now 256) }
-{
-    let mut sheets = Vec::new(heap);
-    for sheet in 0..256u16 {
-        if set.has(sheet) {
-            sheets.push(sheet)?;
-        }
-    }
-    Ok(sheets)
-}
-
 impl fmt::Display for Answer {
     fn fmt<W: fmt::Write>(&self, f: &mut fmt::Formatter<W>) -> fmt::Result {
         match self {
@@ -75,6 +61,7 @@ impl fmt::Display for Answer {
     }
 }
 
+// The report puts a reason between these parts and other commas, so the two share no Display.
 fn write_refusal<W: fmt::Write>(f: &mut fmt::Formatter<W>, refusal: &Refusal) -> fmt::Result {
     let number = refusal.number;
     write!(f, "refusal {number}")?;
@@ -84,9 +71,6 @@ fn write_refusal<W: fmt::Write>(f: &mut fmt::Formatter<W>, refusal: &Refusal) ->
     match refusal.returned {
         Returned::Place(place) => write!(f, ", place {place}"),
         Returned::Index(index) => write!(f, ", index {index}"),
-        Returned::Kind(kind) => {
-            let kind = kind.word();
-            write!(f, ", kind {kind}")
-        }
+        Returned::Kind(kind) => write!(f, ", kind {kind}"),
     }
 }

@@ -2,8 +2,8 @@
 ghost use Rattle.std.specs.Prelude.{◌≡◌, ◌+◌, ◌-◌, ◌^◌, ◌≤◌, IfOk, min};
 
 use super::answers::Answer;
+use super::checks::Checks;
 use super::lists::names_of;
-use super::tally::Tally;
 use sentences::reading::parse;
 
 struct CountCase {
@@ -57,17 +57,17 @@ const COUNT_CASES: &[CountCase] = &[
     },
 ];
 
-pub fn run(rt: &HostRuntime, tally: &mut Tally) -> anyhow::Result<()>
-    ensures cases { IfOk result (λ _. tally.new.cases ≡ min (tally.old.cases + 5) (2 ^ 64 - 1)) }
-    ensures wrong { tally.old.wrong ≤ tally.new.wrong }
+pub fn run(checks: &mut Checks) -> anyhow::Result<()>
+    ensures cases { IfOk result (λ _. checks.new.tally.cases ≡ min (checks.old.tally.cases + 5) (2 ^ 64 - 1)) }
+    ensures wrong { checks.old.tally.wrong ≤ checks.new.tally.wrong }
 {
     for case in COUNT_CASES {
-        let names = names_of(rt.alloc(), case.names)?;
+        let names = names_of(checks.heap(), case.names)?;
         let got = match parse(&names, case.text) {
             Ok(meaning) => Answer::Count(meaning.sheets.count()),
             Err(fault) => Answer::Refused(fault.refusal()),
         };
-        tally.compare(rt, case.what, &Answer::Count(case.count), &got)?;
+        checks.compare(case.what, &Answer::Count(case.count), &got)?;
     }
     Ok(())
 }

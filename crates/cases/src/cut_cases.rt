@@ -2,11 +2,10 @@
 ghost use Rattle.std.specs.Prelude.{◌≡◌, ◌+◌, ◌-◌, ◌^◌, ◌≤◌, IfOk, min};
 
 use super::answers::Answer;
+use super::checks::Checks;
 use super::lists::{Expected, read_list};
-use super::tally::Tally;
 use sentences::cuts::{Cut, CutList};
 use sentences::faults::ListKind;
-use sentences::names::Names;
 
 // A list, the first of its pairs that is bad in itself, and what the whole list is read as.
 struct CutCase {
@@ -201,9 +200,9 @@ const CUT_CASES: &[CutCase] = &[
     },
 ];
 
-pub fn run(rt: &HostRuntime, tally: &mut Tally, names: &Names) -> anyhow::Result<()>
-    ensures cases { IfOk result (λ _. tally.new.cases ≡ min (tally.old.cases + 32) (2 ^ 64 - 1)) }
-    ensures wrong { tally.old.wrong ≤ tally.new.wrong }
+pub fn run(checks: &mut Checks) -> anyhow::Result<()>
+    ensures cases { IfOk result (λ _. checks.new.tally.cases ≡ min (checks.old.tally.cases + 32) (2 ^ 64 - 1)) }
+    ensures wrong { checks.old.tally.wrong ≤ checks.new.tally.wrong }
 {
     for case in CUT_CASES {
         let list = CutList {
@@ -211,9 +210,10 @@ pub fn run(rt: &HostRuntime, tally: &mut Tally, names: &Names) -> anyhow::Result
             cuts: case.cuts,
         };
         let bad_pair = Answer::BadPair(list.first_bad_pair());
-        tally.compare(rt, case.what, &Answer::BadPair(case.bad_pair), &bad_pair)?;
-        let got = read_list(case.kind, names, &list);
-        tally.compare(rt, case.what, &case.expected.answer(), &got)?;
+        let expected = Answer::BadPair(case.bad_pair);
+        checks.compare(case.what, &expected, &bad_pair)?;
+        let got = read_list(case.kind, &checks.names, &list);
+        checks.compare(case.what, &case.expected.answer(), &got)?;
     }
     Ok(())
 }

@@ -1,10 +1,11 @@
 // Lists of names, house rules and secrets, whose pieces follow one another.
 ghost use Rattle.std.specs.Prelude.{◌≡◌, ◌+◌, ◌-◌, ◌^◌, ◌≤◌, IfOk, min};
 
-use super::lists::{Expected, Pieces, read_list};
-use super::tally::Tally;
+use super::checks::Checks;
+use super::lists::{Expected, LEFT_OUT, read_list};
+use anyhow::Context;
+use pieces::Pieces;
 use sentences::faults::ListKind;
-use sentences::names::Names;
 
 struct ListCase {
     what: &'static str,
@@ -275,14 +276,15 @@ const LIST_CASES: &[ListCase] = &[
     },
 ];
 
-pub fn run(rt: &HostRuntime, tally: &mut Tally, names: &Names) -> anyhow::Result<()>
-    ensures cases { IfOk result (λ _. tally.new.cases ≡ min (tally.old.cases + 28) (2 ^ 64 - 1)) }
-    ensures wrong { tally.old.wrong ≤ tally.new.wrong }
+pub fn run(checks: &mut Checks) -> anyhow::Result<()>
+    ensures cases { IfOk result (λ _. checks.new.tally.cases ≡ min (checks.old.tally.cases + 28) (2 ^ 64 - 1)) }
+    ensures wrong { checks.old.tally.wrong ≤ checks.new.tally.wrong }
 {
     for case in LIST_CASES {
-        let pieces = Pieces::of(rt.alloc(), case.pieces)?;
-        let got = read_list(case.kind, names, &pieces.list());
-        tally.compare(rt, case.what, &case.expected.answer(), &got)?;
+        let pieces = Pieces::of(checks.heap(), case.pieces)?;
+        let list = pieces.list().context(LEFT_OUT)?;
+        let got = read_list(case.kind, &checks.names, &list);
+        checks.compare(case.what, &case.expected.answer(), &got)?;
     }
     Ok(())
 }

@@ -3,57 +3,25 @@ ghost use Rattle.std.specs.Prelude.{◌≡◌, IfOk, map};
 ghost use Rattle.sentences.specs.Lists.{sets_read};
 ghost use Rattle.sentences.specs.Naming.{words};
 ghost use Rattle.cases.specs.Answers.{counted, expected_answer, list_answer};
-ghost use Rattle.cases.specs.Held.{Holds};
 
 use super::answers::Answer;
-use anyhow::anyhow;
-use sentences::cuts::{Cut, CutList};
+use anyhow::{Context, anyhow};
+use pieces::Pieces;
+use sentences::cuts::CutList;
 use sentences::faults::{ListFault, ListKind, Refusal, Returned};
 use sentences::lists::SentenceList;
 use sentences::names::Names;
 use std::alloc::Global;
 
-// The pieces one after the other in a block, and a pair for each.
-#[derive(Drop)]
-pub struct Pieces {
-    block: Vec<u8>,
-    cuts: Vec<Cut>,
-}
-
-impl Pieces {
-    pub fn of(heap: Global, pieces: &[&str]) -> anyhow::Result<Pieces>
-        ensures { IfOk result (λ r. Holds r.block.items r.cuts.items (map (λ p. p.now) pieces.now)) }
-    {
-        let mut block = Vec::new(heap);
-        let mut cuts = Vec::new(heap);
-        for piece in pieces {
-            let offset = u16::try_from(block.len())?;
-            let len = u16::try_from(piece.len())?;
-            cuts.push(Cut { offset, len })?;
-            block.extend_from_slice(piece.as_bytes())?;
-        }
-        Ok(Pieces { block, cuts })
-    }
-
-    pub fn list(&self) -> CutList<'_>
-        ensures block { result.block.now ≡ self.now.block.items }
-        ensures cuts { result.cuts.now ≡ self.now.cuts.items }
-    {
-        CutList {
-            block: self.block.as_slice(),
-            cuts: self.cuts.as_slice(),
-        }
-    }
-}
+// What is said where a pair cannot reach a piece of a case.
+pub(crate) const LEFT_OUT: &str = "a case's list is too long";
 
 pub fn names_of(heap: Global, names: &[&str]) -> anyhow::Result<Names>
     ensures { IfOk result (λ r. words r ≡ map (λ p. p.now) names.now) }
 {
     let pieces = Pieces::of(heap, names)?;
-    match Names::parse(&pieces.list()) {
-        Ok(names) => Ok(names),
-        Err(_) => Err(anyhow!("the names of a case are refused")),
-    }
+    let list = pieces.list().context(LEFT_OUT)?;
+    Names::parse(&list).map_err(|_fault| anyhow!("the names of a case are refused"))
 }
 
 // The library's answer to the list as one of that kind.

@@ -1,13 +1,11 @@
 // Texts about as long as a sentence can be, read with the names full, late and sold.
-ghost use Rattle.std.specs.Prelude.{◌≡◌, ◌+◌, ◌-◌, ◌^◌, ◌≤◌, IfOk, min};
+ghost use Rattle.std.specs.Prelude.{◌≡◌, ◌+◌, ◌-◌, ◌^◌, ◌<◌, ◌≤◌, IfOk, length, min};
 
-use super::answers::{Answer, refused_at};
+use super::checks::Checks;
 use super::lists::{Expected, read_list};
-use super::tally::Tally;
+use super::readings::Reading;
 use sentences::cuts::{Cut, CutList};
 use sentences::faults::ListKind;
-use sentences::names::Names;
-use sentences::reading::parse;
 use std::alloc::{AllocError, Global};
 
 // A byte so many times, then the middle, then another byte so many times.
@@ -20,18 +18,10 @@ struct LongText {
     backs: usize,
 }
 
-struct TrueCase {
+struct LongCase {
     what: &'static str,
     text: LongText,
-    sheets: &'static [u16],
-    tokens: usize,
-}
-
-struct RefusedCase {
-    what: &'static str,
-    text: LongText,
-    number: u8,
-    place: usize,
+    expected: Reading,
 }
 
 impl LongText {
@@ -44,8 +34,8 @@ impl LongText {
     }
 }
 
-const TRUE_CASES: &[TrueCase] = &[
-    TrueCase {
+const LONG_CASES: &[LongCase] = &[
+    LongCase {
         what: "'full' and 252 blanks",
         text: LongText {
             front: b' ',
@@ -54,10 +44,12 @@ const TRUE_CASES: &[TrueCase] = &[
             back: b' ',
             backs: 252,
         },
-        sheets: &[1, 3, 5, 7],
-        tokens: 1,
+        expected: Reading::Sentence {
+            sheets: &[1, 3, 5, 7],
+            tokens: 1,
+        },
     },
-    TrueCase {
+    LongCase {
         what: "252 times '!' and 'full'",
         text: LongText {
             front: b'!',
@@ -66,10 +58,12 @@ const TRUE_CASES: &[TrueCase] = &[
             back: b' ',
             backs: 0,
         },
-        sheets: &[1, 3, 5, 7],
-        tokens: 253,
+        expected: Reading::Sentence {
+            sheets: &[1, 3, 5, 7],
+            tokens: 253,
+        },
     },
-    TrueCase {
+    LongCase {
         what: "251 times '!', a blank and 'full'",
         text: LongText {
             front: b'!',
@@ -78,10 +72,12 @@ const TRUE_CASES: &[TrueCase] = &[
             back: b' ',
             backs: 0,
         },
-        sheets: &[0, 2, 4, 6],
-        tokens: 252,
+        expected: Reading::Sentence {
+            sheets: &[0, 2, 4, 6],
+            tokens: 252,
+        },
     },
-    TrueCase {
+    LongCase {
         what: "'full' in 126 pairs of brackets",
         text: LongText {
             front: b'(',
@@ -90,13 +86,12 @@ const TRUE_CASES: &[TrueCase] = &[
             back: b')',
             backs: 126,
         },
-        sheets: &[1, 3, 5, 7],
-        tokens: 253,
+        expected: Reading::Sentence {
+            sheets: &[1, 3, 5, 7],
+            tokens: 253,
+        },
     },
-];
-
-const REFUSED_CASES: &[RefusedCase] = &[
-    RefusedCase {
+    LongCase {
         what: "'full' and 253 blanks",
         text: LongText {
             front: b' ',
@@ -105,10 +100,12 @@ const REFUSED_CASES: &[RefusedCase] = &[
             back: b' ',
             backs: 253,
         },
-        number: 1,
-        place: 256,
+        expected: Reading::Refused {
+            number: 1,
+            place: 256,
+        },
     },
-    RefusedCase {
+    LongCase {
         what: "256 times '!'",
         text: LongText {
             front: b'!',
@@ -117,10 +114,12 @@ const REFUSED_CASES: &[RefusedCase] = &[
             back: b' ',
             backs: 0,
         },
-        number: 4,
-        place: 256,
+        expected: Reading::Refused {
+            number: 4,
+            place: 256,
+        },
     },
-    RefusedCase {
+    LongCase {
         what: "256 opening brackets",
         text: LongText {
             front: b'(',
@@ -129,10 +128,12 @@ const REFUSED_CASES: &[RefusedCase] = &[
             back: b' ',
             backs: 0,
         },
-        number: 4,
-        place: 256,
+        expected: Reading::Refused {
+            number: 4,
+            place: 256,
+        },
     },
-    RefusedCase {
+    LongCase {
         what: "257 opening brackets",
         text: LongText {
             front: b'(',
@@ -141,10 +142,12 @@ const REFUSED_CASES: &[RefusedCase] = &[
             back: b' ',
             backs: 0,
         },
-        number: 1,
-        place: 256,
+        expected: Reading::Refused {
+            number: 1,
+            place: 256,
+        },
     },
-    RefusedCase {
+    LongCase {
         what: "127 opening brackets, 'full' and 125 closing ones",
         text: LongText {
             front: b'(',
@@ -153,44 +156,36 @@ const REFUSED_CASES: &[RefusedCase] = &[
             back: b')',
             backs: 125,
         },
-        number: 4,
-        place: 256,
+        expected: Reading::Refused {
+            number: 4,
+            place: 256,
+        },
     },
 ];
 
-pub fn run(rt: &HostRuntime, tally: &mut Tally, names: &Names) -> anyhow::Result<()>
-    ensures cases { IfOk result (λ _. tally.new.cases ≡ min (tally.old.cases + 10) (2 ^ 64 - 1)) }
-    ensures wrong { tally.old.wrong ≤ tally.new.wrong }
+pub fn run(checks: &mut Checks) -> anyhow::Result<()>
+    ensures cases { IfOk result (λ _. checks.new.tally.cases ≡ min (checks.old.tally.cases + 10) (2 ^ 64 - 1)) }
+    ensures wrong { checks.old.tally.wrong ≤ checks.new.tally.wrong }
 {
-    let heap = rt.alloc();
-    for case in TRUE_CASES {
-        let text = case.text.bytes(heap)?;
-        let expected = Answer::Meaning(case.sheets.to_vec(heap)?, case.tokens);
-        let got = Answer::of_sentence(heap, parse(names, text.as_slice()))?;
-        tally.compare(rt, case.what, &expected, &got)?;
-    }
-    run_refused(rt, tally, names)?;
-    run_in_list(rt, tally, names)
+    run_texts(checks, LONG_CASES)?;
+    run_in_list(checks)
 }
 
-fn run_refused(rt: &HostRuntime, tally: &mut Tally, names: &Names) -> anyhow::Result<()>
-    ensures cases { IfOk result (λ _. tally.new.cases ≡ min (tally.old.cases + 5) (2 ^ 64 - 1)) }
-    ensures wrong { tally.old.wrong ≤ tally.new.wrong }
+fn run_texts(checks: &mut Checks, cases: &[LongCase]) -> anyhow::Result<()>
+    ensures cases { IfOk result (λ _. 0 < length cases.now → checks.new.tally.cases ≡ min (checks.old.tally.cases + length cases.now) (2 ^ 64 - 1)) }
+    ensures wrong { checks.old.tally.wrong ≤ checks.new.tally.wrong }
 {
-    let heap = rt.alloc();
-    for case in REFUSED_CASES {
-        let text = case.text.bytes(heap)?;
-        let expected = Answer::Refused(refused_at(case.number, case.place));
-        let got = Answer::of_sentence(heap, parse(names, text.as_slice()))?;
-        tally.compare(rt, case.what, &expected, &got)?;
+    for case in cases {
+        let text = case.text.bytes(checks.heap())?;
+        checks.check_text(case.what, text.as_slice(), case.expected)?;
     }
     Ok(())
 }
 
 // The second sentence of a list is too long.
-fn run_in_list(rt: &HostRuntime, tally: &mut Tally, names: &Names) -> anyhow::Result<()>
-    ensures cases { IfOk result (λ _. tally.new.cases ≡ min (tally.old.cases + 1) (2 ^ 64 - 1)) }
-    ensures wrong { tally.old.wrong ≤ tally.new.wrong }
+fn run_in_list(checks: &mut Checks) -> anyhow::Result<()>
+    ensures cases { IfOk result (λ _. checks.new.tally.cases ≡ min (checks.old.tally.cases + 1) (2 ^ 64 - 1)) }
+    ensures wrong { checks.old.tally.wrong ≤ checks.new.tally.wrong }
 {
     let text = LongText {
         front: b' ',
@@ -199,7 +194,7 @@ fn run_in_list(rt: &HostRuntime, tally: &mut Tally, names: &Names) -> anyhow::Re
         back: b'(',
         backs: 257,
     };
-    let block = text.bytes(rt.alloc())?;
+    let block = text.bytes(checks.heap())?;
     let list = CutList {
         block: block.as_slice(),
         cuts: &[
@@ -215,9 +210,8 @@ fn run_in_list(rt: &HostRuntime, tally: &mut Tally, names: &Names) -> anyhow::Re
         item: 1,
         place: 256,
     };
-    let got = read_list(ListKind::Secrets, names, &list);
-    tally.compare(
-        rt,
+    let got = read_list(ListKind::Secrets, &checks.names, &list);
+    checks.compare(
         "secrets: 'full' and 257 opening brackets",
         &expected.answer(),
         &got,

@@ -2,16 +2,17 @@
 #![tactic(auto)]
 
 use anyhow::anyhow;
-use tally::Tally;
+use checks::Checks;
 
 mod answers;
+mod checks;
 mod count_cases;
 mod cut_cases;
 mod list_cases;
 mod lists;
 mod long_cases;
+mod readings;
 mod sentence_cases;
-mod tally;
 
 fn main(rt: HostRuntime) -> anyhow::Result<()> {
     run(&rt)
@@ -19,14 +20,14 @@ fn main(rt: HostRuntime) -> anyhow::Result<()> {
 
 fn run(rt: &HostRuntime) -> anyhow::Result<()> {
     let names = lists::names_of(rt.alloc(), &["full", "late", "sold"])?;
-    let mut tally = Tally::new();
-    sentence_cases::run(rt, &mut tally, &names)?;
-    long_cases::run(rt, &mut tally, &names)?;
-    count_cases::run(rt, &mut tally)?;
-    list_cases::run(rt, &mut tally, &names)?;
-    cut_cases::run(rt, &mut tally, &names)?;
-    let cases = tally.cases;
-    let wrong = tally.wrong;
+    let mut checks = Checks::new(rt, names);
+    sentence_cases::run(&mut checks)?;
+    long_cases::run(&mut checks)?;
+    count_cases::run(&mut checks)?;
+    list_cases::run(&mut checks)?;
+    cut_cases::run(&mut checks)?;
+    let cases = checks.tally.cases;
+    let wrong = checks.tally.wrong;
     println!(rt; "{cases} cases, {wrong} wrong")?;
     if wrong > 0 {
         return Err(anyhow!("some answers are not what is expected"));

@@ -1,4 +1,3 @@
-mod Passings
+mod Labels
 mod PieceLists
 mod Places
-mod Words

@@ -1,6 +1,7 @@
 -- A cut list is read by its block and its pairs alone.
-use Rattle.std.proofs.Common.{◌≡◌, ℕ, ◌<◌, false, List, Result, Err, nat_eq, refl, arith}
+use Rattle.std.proofs.Common.{◌≡◌, ℕ, ◌<◌, false, List, Result, Err, IsErrAnd, nat_eq, ap, sym, refl, arith, ◌∙◌}
 use Rattle.std.proofs.lemmas.Bool.Decides.{nat_tests}
+use Rattle.std.proofs.lemmas.Result.{err_from_is_err_and}
 use Rattle.sentences.specs.declared.cuts.Cut.{Cut}
 use Rattle.sentences.specs.declared.cuts.CutList.{CutList}
 use Rattle.sentences.specs.declared.faults.ListKind.{ListKind}
@@ -10,7 +11,8 @@ use Rattle.sentences.specs.Names.{Word}
 use Rattle.sentences.specs.Naming.{naming}
 use Rattle.sentences.specs.declared.faults.ListFault.{ListFault}
 use Rattle.report.specs.PieceLists.{cut_list, if_whole, or_refused}
-use Rattle.report.specs.declared.lists.Unread.TheVariants.{TooLarge}
+use Rattle.report.specs.declared.lists.Unread.{Unread}
+use Rattle.report.specs.declared.lists.Unread.TheVariants.{TooLarge, Refused}
 
 module _ (x : CutList) {block : List ℕ} {cuts : List Cut} (same_block : x.block.now ≡ block) (same_cuts : x.cuts.now ≡ cuts) where
   pub naming_by_parts : naming x ≡ naming (cut_list block cuts)
@@ -23,8 +25,15 @@ module _ (x : CutList) {block : List ℕ} {cuts : List Cut} (same_block : x.bloc
 
 -- What is read of a list, by whether pieces were left out of it, and by whether it has a fault.
 module _ {R : Type 0} (n : ℕ) (read : Result R ListFault) where
-  pub left_out_too_large : 0 < n → if_whole n read ≡ Err TooLarge
+  left_out_too_large : 0 < n → if_whole n read ≡ Err TooLarge
   left_out_too_large some = let no : nat_eq n 0 ≡ false = grind (arith, nat_tests) in rw no refl
 
   pub whole_or_refused : n ≡ 0 → if_whole n read ≡ or_refused read
   whole_or_refused none = rw none refl
+
+  module _ {L : Type 0} (shown : Result L Unread → Result R Unread) (keeps : (why : Unread) → shown (Err why) ≡ Err why) (r : Result L Unread) where
+    pub read_left_out : {why : Unread} → IsErrAnd r (λ y. y ≡ why) → why ≡ TooLarge → 0 < n → shown r ≡ if_whole n read
+    read_left_out e large some = let p = err_from_is_err_and r e in rw (p.1, p.2) (keeps _ ∙ ap Err large ∙ sym (left_out_too_large some))
+
+    pub read_refused : {fault : ListFault} → IsErrAnd r (λ y. y ≡ Refused fault) → Err fault ≡ read → n ≡ 0 → shown r ≡ if_whole n read
+    read_refused e same none = let p = err_from_is_err_and r e in rw (p.1, p.2) (keeps _ ∙ ap or_refused same ∙ sym (whole_or_refused none))

@@ -1,6 +1,5 @@
 pub mod Labels
 pub mod Lines
-pub mod Passing
 pub mod Printed
 pub mod PieceLists
 pub mod Reasons

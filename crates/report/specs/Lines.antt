@@ -1,15 +1,10 @@
 -- The lines of an input file, and what each is taken apart into.
-use Rattle.std.specs.Prelude.{◌≡◌, ◌≢◌, ℕ, ◌-◌, Bool, true, false, cond, ◌||◌, not, List, length, take, drop, [], ◌∷◌, codes, nat_eq, nat_lt, slice_index}
-use Rattle.std.specs.Cmp.Lexicographic.{pointwise}
+use Rattle.std.specs.Prelude.{◌≡◌, ◌≢◌, ℕ, Bool, true, false, ◌||◌, not, List, length, drop, codes, nat_eq, nat_lt, slice_index}
 use Rattle.std.specs.List.{position_or_len, before_first, slice_split, filter}
 use Rattle.report.specs.declared.input.Label.{Label}
 use Rattle.report.specs.declared.input.Line.{Line}
 use Rattle.report.specs.declared.input.Line.TheVariants.{Nothing, Names, Sentence, UnknownLabel}
 use Rattle.report.specs.Labels.{label_name}
-
--- the line without a carriage return at its end
-abbrev pub without_return : List ℕ → List ℕ
-without_return xs = cond (pointwise nat_eq (drop (length xs - 1) xs) (13 ∷ [])) (take (length xs - 1) xs) xs
 
 -- a line that says nothing: an empty one, or a comment, which begins with '#'
 abbrev pub is_silent : List ℕ → Bool

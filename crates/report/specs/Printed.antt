@@ -1,5 +1,5 @@
 -- What is printed: texts in columns, and the censors in their order.
-use Rattle.std.specs.Prelude.{ℕ, List, [], ◌∷◌, length, min, codes}
+use Rattle.std.specs.Prelude.{ℕ, List, [], ◌∷◌, length, min}
 use Rattle.censors.specs.declared.builtin.Builtin.{Builtin}
 use Rattle.censors.specs.declared.builtin.Builtin.TheVariants.{Refusing, Lying, Combined}
 
@@ -10,9 +10,3 @@ columns text = min (length text) 256
 -- each censor that a box can have, in the order of the report
 abbrev pub all_censors : List Builtin
 all_censors = Refusing ∷ Lying ∷ Combined ∷ []
-
--- the word for each censor
-abbrev pub censor_word : Builtin → List ℕ
-censor_word Refusing = codes "refusing"
-censor_word Lying = codes "lying"
-censor_word Combined = codes "combined"

@@ -1,38 +1,29 @@
 // What a file has given so far.
-ghost use Rattle.std.specs.Prelude.{◌≡◌, ◌+◌, ◌-◌, ◌^◌, min, false, [], ◌∷◌, ◌++◌, is_ok, IfOk, MatchResult, OnOk, ◌≢◌};
+ghost use Rattle.std.specs.Prelude.{◌≡◌, ◌+◌, ◌-◌, ◌^◌, min, false, [], ◌∷◌, ◌++◌, is_ok, IfOk, None, Some, Ok, Err, OnOk, ◌≢◌};
 ghost use Rattle.censors.specs.Questions.{question_of};
+ghost use Rattle.report.specs.declared.lists.Unread.{Unread};
+ghost use Rattle.sentences.specs.declared.faults.SentenceFault.{SentenceFault};
 
 use super::input::Label;
-use super::lists::{Pieces, Unread};
+use super::lists::{Unread, house_rules_in, secrets_in};
 use super::outlook::{Asked, Opening, Unopened};
 use super::start::starting_record;
 use censors::question::Question;
+use pieces::Pieces;
+use sentences::faults::SentenceFault;
 use sentences::names::Names;
 use sheets::SheetSet;
 use std::alloc::{AllocError, Global};
 
-// What the file has said of its names so far.
-#[derive(Clone, Copy)]
-pub(crate) enum Naming {
-    Missing,
-    Refused,
-    Known(Names),
-}
-
-// What the file has said so far of what the counterparty knows beforehand.
-#[derive(Clone, Copy)]
-enum Prior {
-    Missing,
-    Refused,
-    Known(SheetSet),
-}
-
 #[derive(Drop)]
 pub(crate) struct FileReport<'a> {
-    pub(crate) naming: Naming,
+    // what the names are read as, once there are any
+    pub(crate) naming: Option<Result<Names, Unread>>,
     pub(crate) rules: Pieces,
     pub(crate) secrets: Pieces,
-    prior: Prior,
+    // what the counterparty knows beforehand, once that is given
+    // The fault is not read again: it tells a refused prior from a missing one, as the names' does.
+    prior: Option<Result<SheetSet, SentenceFault>>,
     // how many questions there are, refused ones too
     questions: usize,
     pub(crate) asked: Vec<Asked<'a>>,
@@ -44,15 +35,15 @@ pub(crate) struct FileReport<'a> {
 
 impl<'a> FileReport<'a> {
     pub(crate) fn new(heap: Global) -> FileReport<'a>
-        ensures naming { result.naming ≡ Naming.Missing }
-        ensures prior { result.prior ≡ Prior.Missing }
+        ensures naming { result.naming ≡ None }
+        ensures prior { result.prior ≡ None }
         ensures asked { result.asked.items ≡ [] }
     {
         FileReport {
-            naming: Naming::Missing,
+            naming: None,
             rules: Pieces::new(heap),
             secrets: Pieces::new(heap),
-            prior: Prior::Missing,
+            prior: None,
             questions: 0,
             asked: Vec::new(heap),
             accepted: 0,
@@ -62,26 +53,20 @@ impl<'a> FileReport<'a> {
         }
     }
 
-    // Keeps the names, or that they are refused.
-    pub(crate) fn take_names(&mut self, read: &Result<Names, Unread>)
-        ensures { MatchResult read.now (λ names. self.new.naming ≡ Naming.Known names) (λ _. self.new.naming ≡ Naming.Refused) }
+    // Keeps the names, or why they are refused.
+    pub(crate) fn take_names(&mut self, read: Result<Names, Unread>)
+        ensures { self.new.naming ≡ Some read }
     {
-        self.naming = match read {
-            Ok(names) => Naming::Known(*names),
-            Err(_) => Naming::Refused,
-        };
+        self.naming = Some(read);
     }
 
     // Whether the label stands once in a file, and has been there.
     pub(crate) fn is_given(&self, label: Label) -> bool
         ensures other { (label ≢ Label.Prior) → result ≡ false }
-        ensures missing { self.now.prior ≡ Prior.Missing → result ≡ false }
-        ensures given { label ≡ Label.Prior → result ≡ false → self.now.prior ≡ Prior.Missing }
+        ensures missing { self.now.prior ≡ None → result ≡ false }
+        ensures given { label ≡ Label.Prior → result ≡ false → self.now.prior ≡ None }
     {
-        match (label, self.prior) {
-            (Label::Prior, Prior::Refused | Prior::Known(_)) => true,
-            _ => false,
-        }
+        matches!(label, Label::Prior) && self.prior.is_some()
     }
 
     // Takes a sentence in and answers its number among those of its label.
@@ -108,13 +93,13 @@ impl<'a> FileReport<'a> {
         text: &'a [u8],
         sheets: SheetSet,
     ) -> Result<(), AllocError>
-        ensures prior { label ≡ Label.Prior → self.new.prior ≡ Prior.Known sheets }
+        ensures prior { label ≡ Label.Prior → self.new.prior ≡ Some (Ok sheets) }
         ensures asked { OnOk result (label ≡ Label.Question → self.new.asked.items ≡ self.old.asked.items ++ record { number = number; text = text.entry; question = question_of sheets } ∷ []) }
     {
         self.accepted = self.accepted.saturating_add(1);
         match label {
             Label::Rule | Label::Secret => {}
-            Label::Prior => self.prior = Prior::Known(sheets),
+            Label::Prior => self.prior = Some(Ok(sheets)),
             Label::Question => {
                 let asked = Asked {
                     number,
@@ -127,12 +112,12 @@ impl<'a> FileReport<'a> {
         Ok(())
     }
 
-    pub(crate) fn refuse(&mut self, label: Label)
-        ensures { label ≡ Label.Prior → self.new.prior ≡ Prior.Refused }
+    pub(crate) fn refuse(&mut self, label: Label, fault: SentenceFault)
+        ensures { label ≡ Label.Prior → self.new.prior ≡ Some (Err fault) }
     {
         self.refused = self.refused.saturating_add(1);
         if let Label::Prior = label {
-            self.prior = Prior::Refused;
+            self.prior = Some(Err(fault));
         }
     }
 
@@ -151,25 +136,14 @@ impl<'a> FileReport<'a> {
 
     // Where the censors start from, or the first thing that is lacking for that.
     pub(crate) fn opening(&self) -> Result<Opening, Unopened>
-        ensures names { self.now.naming ≡ Naming.Refused → is_ok result ≡ false }
-        ensures prior { self.now.prior ≡ Prior.Refused → is_ok result ≡ false }
+        ensures names { (why : Unread) → self.now.naming ≡ Some (Err why) → is_ok result ≡ false }
+        ensures prior { (why : SentenceFault) → self.now.prior ≡ Some (Err why) → is_ok result ≡ false }
     {
-        let names = match self.naming {
-            Naming::Missing => return Err(Unopened::NoNames),
-            Naming::Refused => return Err(Unopened::NamesRefused),
-            Naming::Known(names) => names,
-        };
-        let Ok(rules) = self.rules.house_rules(&names) else {
-            return Err(Unopened::HouseRules);
-        };
-        let Ok(secrets) = self.secrets.secrets(&names) else {
-            return Err(Unopened::Secrets);
-        };
-        let prior = match self.prior {
-            Prior::Missing => None,
-            Prior::Refused => return Err(Unopened::Prior),
-            Prior::Known(sheets) => Some(sheets),
-        };
+        let names = self.naming.ok_or(Unopened::NoNames)?;
+        let names = names.map_err(|_| Unopened::NamesRefused)?;
+        let rules = house_rules_in(&self.rules, &names).map_err(|_| Unopened::HouseRules)?;
+        let secrets = secrets_in(&self.secrets, &names).map_err(|_| Unopened::Secrets)?;
+        let prior = self.prior.transpose().map_err(|_| Unopened::Prior)?;
         Ok(Opening {
             known: starting_record(&names, &rules, prior),
             secrets,

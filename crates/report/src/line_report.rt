@@ -1,30 +1,39 @@
 // The report of one file, line by line: its names, and its sentences in their order.
 ghost use Rattle.std.specs.Prelude.{◌≡◌, ◌+◌, ◌-◌, ◌^◌, min};
 
-use super::end_report::report_end;
-use super::file_report::{FileReport, Naming};
-use super::input::{Label, Line, Split, read_line, without_return, words};
-use super::lists::{Pieces, Unread};
+use super::file_report::FileReport;
+use super::input::{Label, Line, read_line, words};
+use super::lists::{Unread, names_in};
 use super::refusals::ExplainedRefusal;
 use super::show::{Shown, print_caret, print_set};
 use super::start::sheets_of;
+use inputs::lines::{Split, without_return};
+use pieces::Pieces;
 use sentences::faults::SentenceFault;
 use sentences::names::Names;
 use sentences::reading::parse;
 use std::alloc::{AllocError, Global};
-use std::io;
+use std::{fmt, io};
+
+// Prints the report of a file, and keeps what the file has given so far.
+#[derive(Drop)]
+pub(crate) struct Reporter<'r, 'a> {
+    pub(crate) rt: &'r HostRuntime,
+    pub(crate) so_far: FileReport<'a>,
+}
 
 pub fn report(rt: &HostRuntime, name: &str, text: &[u8]) -> io::Result<()> {
     let title = Shown {
         text: name.as_bytes(),
     };
     print_title(rt, name, title)?;
-    let mut so_far = FileReport::new(rt.alloc());
+    let so_far = FileReport::new(rt.alloc());
+    let mut reporter = Reporter { rt, so_far };
     for (index, line) in Split::new(text, b'\n').enumerate() {
         let number = index.saturating_add(1);
-        report_numbered(rt, &mut so_far, index, number, without_return(line))?;
+        reporter.numbered(index, number, without_return(line))?;
     }
-    report_end(rt, &so_far)
+    reporter.end()
 }
 
 fn print_title(rt: &HostRuntime, name: &str, title: Shown) -> io::Result<()>
@@ -33,88 +42,85 @@ fn print_title(rt: &HostRuntime, name: &str, title: Shown) -> io::Result<()>
     println!(rt; "== {title} ==")
 }
 
-// The index counts from 0, and a reader counts lines from 1.
-fn report_numbered<'a>(
-    rt: &HostRuntime,
-    so_far: &mut FileReport<'a>,
-    index: usize,
-    number: usize,
-    line: &'a [u8],
-) -> io::Result<()>
-    requires { number ≡ min (index + 1) (2 ^ 64 - 1) }
-{
-    report_line(rt, so_far, number, line)
-}
-
-fn report_line<'a>(
-    rt: &HostRuntime,
-    so_far: &mut FileReport<'a>,
-    number: usize,
-    line: &'a [u8],
-) -> io::Result<()> {
-    match read_line(line) {
-        Line::Nothing => Ok(()),
-        Line::Names(text) => report_names_line(rt, so_far, number, text),
-        Line::Sentence(label, text) => report_sentence_line(rt, so_far, number, label, text),
-        Line::UnknownLabel(label) => report_unknown_label(rt, so_far, number, label),
+impl<'a> Reporter<'_, 'a> {
+    // The index counts from 0, and a reader counts lines from 1.
+    fn numbered(&mut self, index: usize, number: usize, line: &'a [u8]) -> io::Result<()>
+        requires { number ≡ min (index + 1) (2 ^ 64 - 1) }
+    {
+        self.line(number, line)
     }
-}
 
-fn report_bad_line(
-    rt: &HostRuntime,
-    so_far: &mut FileReport,
-    number: usize,
-    reason: &str,
-) -> io::Result<()> {
-    so_far.count_bad_line();
-    println!(rt; "line {number}: {reason}")
-}
+    fn line(&mut self, number: usize, line: &'a [u8]) -> io::Result<()> {
+        match read_line(line) {
+            Line::Nothing => Ok(()),
+            Line::Names(text) => self.names_line(number, text),
+            Line::Sentence(label, text) => self.sentence_line(number, label, text),
+            Line::UnknownLabel(label) => {
+                let label = Shown { text: label };
+                self.bad_line(number, format_args!("the label '{label}' is unknown"))
+            }
+        }
+    }
 
-fn report_unknown_label(
-    rt: &HostRuntime,
-    so_far: &mut FileReport,
-    number: usize,
-    label: &[u8],
-) -> io::Result<()> {
-    so_far.count_bad_line();
-    let label = Shown { text: label };
-    println!(rt; "line {number}: the label '{label}' is unknown")
-}
+    fn bad_line(&mut self, number: usize, reason: impl fmt::Display + Drop) -> io::Result<()> {
+        self.so_far.count_bad_line();
+        println!(self.rt; "line {number}: {reason}")
+    }
 
-fn report_names_line(
-    rt: &HostRuntime,
-    so_far: &mut FileReport,
-    number: usize,
-    text: &[u8],
-) -> io::Result<()> {
-    match so_far.naming {
-        Naming::Missing => report_names(rt, so_far, text),
-        Naming::Refused | Naming::Known(_) => {
-            report_bad_line(rt, so_far, number, "the names were given before")
+    fn names_line(&mut self, number: usize, text: &[u8]) -> io::Result<()> {
+        if self.so_far.naming.is_some() {
+            return self.bad_line(number, "the names were given before");
+        }
+        let words = words(self.rt.alloc(), text)?;
+        self.names(words.as_slice())
+    }
+
+    fn names(&mut self, words: &[&[u8]]) -> io::Result<()> {
+        let read = read_names(self.rt.alloc(), words)?;
+        self.so_far.take_names(read);
+        match read {
+            Ok(_) => print_names(self.rt, words),
+            Err(why) => println!(self.rt; "names: {why}"),
+        }
+    }
+
+    fn sentence_line(&mut self, number: usize, label: Label, text: &'a [u8]) -> io::Result<()> {
+        if self.so_far.is_given(label) {
+            return self.bad_line(number, "the prior was given before");
+        }
+        match self.so_far.naming {
+            None => self.bad_line(number, "a sentence before the names"),
+            Some(Err(_)) => {
+                self.so_far.skip();
+                Ok(())
+            }
+            Some(Ok(names)) => self.sentence(&names, label, text),
+        }
+    }
+
+    fn sentence(&mut self, names: &Names, label: Label, text: &'a [u8]) -> io::Result<()> {
+        let number = self.so_far.add(label, text)?;
+        print_sentence(self.rt, label, number, text)?;
+        match parse(names, text) {
+            Ok(meaning) => {
+                self.so_far.accept(label, number, text, meaning.sheets)?;
+                print_set(self.rt, &meaning.sheets, sheets_of(names).count())
+            }
+            Err(fault) => {
+                self.so_far.refuse(label, fault);
+                print_refusal(self.rt, text, fault)
+            }
         }
     }
 }
 
-fn report_names(rt: &HostRuntime, so_far: &mut FileReport, text: &[u8]) -> io::Result<()> {
-    let words = words(rt.alloc(), text)?;
-    report_words(rt, so_far, words.as_slice())
-}
-
-fn report_words(rt: &HostRuntime, so_far: &mut FileReport, words: &[&[u8]]) -> io::Result<()> {
-    let read = read_names(rt.alloc(), words)?;
-    so_far.take_names(&read);
-    match read {
-        Ok(_) => print_names(rt, words),
-        Err(why) => println!(rt; "names: {why}"),
-    }
-}
-
+// The words need not be UTF-8, so Pieces::of, which takes &str, cannot take them.
 fn read_names(heap: Global, words: &[&[u8]]) -> Result<Result<Names, Unread>, AllocError> {
     let mut pieces = Pieces::new(heap);
     for word in words {
         pieces.add(word)?;
     }
-    Ok(pieces.names())
+    Ok(names_in(&pieces))
 }
 
 fn print_names(rt: &HostRuntime, words: &[&[u8]]) -> io::Result<()> {
@@ -126,51 +132,9 @@ fn print_names(rt: &HostRuntime, words: &[&[u8]]) -> io::Result<()> {
     Ok(())
 }
 
-fn report_sentence_line<'a>(
-    rt: &HostRuntime,
-    so_far: &mut FileReport<'a>,
-    number: usize,
-    label: Label,
-    text: &'a [u8],
-) -> io::Result<()> {
-    if so_far.is_given(label) {
-        return report_bad_line(rt, so_far, number, "the prior was given before");
-    }
-    match so_far.naming {
-        Naming::Missing => report_bad_line(rt, so_far, number, "a sentence before the names"),
-        Naming::Refused => {
-            so_far.skip();
-            Ok(())
-        }
-        Naming::Known(names) => report_sentence(rt, so_far, &names, label, text),
-    }
-}
-
-fn report_sentence<'a>(
-    rt: &HostRuntime,
-    so_far: &mut FileReport<'a>,
-    names: &Names,
-    label: Label,
-    text: &'a [u8],
-) -> io::Result<()> {
-    let number = so_far.add(label, text)?;
-    print_sentence(rt, label, number, text)?;
-    match parse(names, text) {
-        Ok(meaning) => {
-            so_far.accept(label, number, text, meaning.sheets)?;
-            print_set(rt, &meaning.sheets, sheets_of(names).count())
-        }
-        Err(fault) => {
-            so_far.refuse(label);
-            print_refusal(rt, text, fault)
-        }
-    }
-}
-
 fn print_sentence(rt: &HostRuntime, label: Label, number: usize, text: &[u8]) -> io::Result<()> {
-    let name = label.name();
     let shown = Shown { text };
-    println!(rt; "{name} {number}: {shown}")
+    println!(rt; "{label} {number}: {shown}")
 }
 
 // A text that is too long has no place worth a caret.

@@ -1,15 +1,14 @@
 // What each censor would do with each question as the day opens.
 ghost use Rattle.std.specs.Prelude.{◌≡◌};
 ghost use Rattle.censors.specs.declared.question.Value.TheVariants.{Yes, No};
-ghost use Rattle.censors.specs.Kinds.{good_of, table_of};
-ghost use Rattle.censors.specs.Questions.{reply_word};
+ghost use Rattle.censors.specs.Kinds.{good_of, table_of, builtin_word};
 ghost use Rattle.censors.specs.Tables.{decided_by, harm_of};
 ghost use Rattle.sentences.specs.Lists.{sets_of};
 ghost use Rattle.sheets.specs.Sets.{mem, count as count_of};
-ghost use Rattle.report.specs.Printed.{all_censors, censor_word};
+ghost use Rattle.report.specs.Printed.{all_censors};
 
 use super::show::Shown;
-use censors::builtin::Builtin;
+use censors::builtin::{BUILTINS, Builtin};
 use censors::censor::Censor;
 use censors::question::{Question, Reply, Value};
 use censors::table::Harm;
@@ -79,8 +78,8 @@ impl Outlook {
 impl fmt::Display for Outlook {
     fn fmt<W: fmt::Write>(&self, f: &mut fmt::Formatter<W>) -> fmt::Result {
         let harmful = harmful_replies(self.harm);
-        let on_yes = reply_name(self.on_yes);
-        let on_no = reply_name(self.on_no);
+        let on_yes = self.on_yes;
+        let on_no = self.on_no;
         write!(
             f,
             "harmful {harmful}; yes brings {on_yes}, no brings {on_no}"
@@ -88,6 +87,7 @@ impl fmt::Display for Outlook {
     }
 }
 
+// These words are the report's alone, so a Display of Harm in its own crate would be no plainer.
 fn harmful_replies(harm: Harm) -> &'static str {
     match (harm.yes, harm.no) {
         (false, false) => "neither",
@@ -97,121 +97,79 @@ fn harmful_replies(harm: Harm) -> &'static str {
     }
 }
 
-fn reply_name(reply: Reply) -> &'static str
-    ensures { result.now ≡ reply_word reply }
-{
-    reply.word()
-}
-
-fn censor_name(censor: Builtin) -> &'static str
-    ensures { result.now ≡ censor_word censor }
-{
-    match censor {
-        Builtin::Refusing => "refusing",
-        Builtin::Lying => "lying",
-        Builtin::Combined => "combined",
-    }
-}
-
-// What all censors would do, each from the same record.
+// Prints what all censors would do with the questions, each from the same record.
 pub fn print_outlook(rt: &HostRuntime, opening: &Opening, questions: &[Asked]) -> io::Result<()> {
-    print_record(rt, opening, opening.known.count())?;
-    let censors = [Builtin::Refusing, Builtin::Lying, Builtin::Combined];
-    print_censors(rt, opening, questions, &censors)
+    let report = OutlookReport {
+        rt,
+        opening,
+        questions,
+    };
+    report.record(opening.known.count())?;
+    report.censors(&BUILTINS)
 }
 
-fn print_record(rt: &HostRuntime, opening: &Opening, sheets: u16) -> io::Result<()>
-    requires { sheets ≡ count_of (mem opening.now.known) 256 }
-{
-    println!(rt; "censors, from a record of {sheets} sheets:")
+// What the outlook is printed from.
+#[derive(Clone, Copy)]
+struct OutlookReport<'a> {
+    rt: &'a HostRuntime,
+    opening: &'a Opening,
+    questions: &'a [Asked<'a>],
 }
 
-fn print_censors(
-    rt: &HostRuntime,
-    opening: &Opening,
-    questions: &[Asked],
-    censors: &[Builtin],
-) -> io::Result<()>
-    requires { censors.now ≡ all_censors }
-{
-    for censor in censors {
-        print_censor(rt, opening, questions, *censor)?;
+impl OutlookReport<'_> {
+    fn record(&self, sheets: u16) -> io::Result<()>
+        requires { sheets ≡ count_of (mem self.now.opening.now.known) 256 }
+    {
+        println!(self.rt; "censors, from a record of {sheets} sheets:")
     }
-    Ok(())
-}
 
-// A censor takes nobody in where the record is not good, so it has no replies to show then.
-fn print_censor(
-    rt: &HostRuntime,
-    opening: &Opening,
-    questions: &[Asked],
-    censor: Builtin,
-) -> io::Result<()> {
-    let good = censor.is_good(&opening.known, opening.secrets.sets());
-    print_start(rt, opening, censor, censor_name(censor), good)?;
-    if good {
-        print_questions(rt, opening, questions, censor)
-    } else {
+    fn censors(&self, censors: &[Builtin]) -> io::Result<()>
+        requires { censors.now ≡ all_censors }
+    {
+        for censor in censors {
+            self.censor(*censor)?;
+        }
         Ok(())
     }
-}
 
-fn print_start(
-    rt: &HostRuntime,
-    opening: &Opening,
-    censor: Builtin,
-    name: &str,
-    good: bool,
-) -> io::Result<()>
-    requires word { name.now ≡ censor_word censor }
-    requires test { good ≡ good_of censor opening.now.known (sets_of opening.now.secrets) }
-{
-    if good {
-        println!(rt; "  {name}: good")
-    } else {
-        println!(rt; "  {name}: not good, so nobody can be enrolled")
+    // A censor takes nobody in where the record is not good, so it has no replies to show then.
+    fn censor(&self, censor: Builtin) -> io::Result<()> {
+        let good = censor.is_good(&self.opening.known, self.opening.secrets.sets());
+        self.start(censor, censor.word(), good)?;
+        if good { self.questions(censor) } else { Ok(()) }
     }
-}
 
-fn print_questions(
-    rt: &HostRuntime,
-    opening: &Opening,
-    questions: &[Asked],
-    censor: Builtin,
-) -> io::Result<()> {
-    for asked in questions {
-        print_question(rt, opening, asked, censor)?;
+    fn start(&self, censor: Builtin, name: &str, good: bool) -> io::Result<()>
+        requires word { name.now ≡ builtin_word censor }
+        requires test { good ≡ good_of censor self.now.opening.now.known (sets_of self.now.opening.now.secrets) }
+    {
+        if good {
+            println!(self.rt; "  {name}: good")
+        } else {
+            println!(self.rt; "  {name}: not good, so nobody can be enrolled")
+        }
     }
-    Ok(())
-}
 
-fn print_question(
-    rt: &HostRuntime,
-    opening: &Opening,
-    asked: &Asked,
-    censor: Builtin,
-) -> io::Result<()> {
-    let outlook = Outlook::new(
-        censor,
-        &opening.known,
-        opening.secrets.sets(),
-        &asked.question,
-    );
-    print_replies(rt, opening, asked, censor, outlook)
-}
+    fn questions(&self, censor: Builtin) -> io::Result<()> {
+        for asked in self.questions {
+            self.question(asked, censor)?;
+        }
+        Ok(())
+    }
 
-fn print_replies(
-    rt: &HostRuntime,
-    opening: &Opening,
-    asked: &Asked,
-    censor: Builtin,
-    outlook: Outlook,
-) -> io::Result<()>
-    requires harm { outlook.harm ≡ harm_of (good_of censor) opening.now.known (sets_of opening.now.secrets) asked.now.question }
-    requires yes { outlook.on_yes ≡ (decided_by (good_of censor) (table_of censor) opening.now.known (sets_of opening.now.secrets) asked.now.question Yes).reply }
-    requires no { outlook.on_no ≡ (decided_by (good_of censor) (table_of censor) opening.now.known (sets_of opening.now.secrets) asked.now.question No).reply }
-{
-    let number = asked.number;
-    let text = Shown { text: asked.text };
-    println!(rt; "    question {number}, {text}: {outlook}")
+    fn question(&self, asked: &Asked, censor: Builtin) -> io::Result<()> {
+        let known = &self.opening.known;
+        let outlook = Outlook::new(censor, known, self.opening.secrets.sets(), &asked.question);
+        self.replies(asked, censor, outlook)
+    }
+
+    fn replies(&self, asked: &Asked, censor: Builtin, outlook: Outlook) -> io::Result<()>
+        requires harm { outlook.harm ≡ harm_of (good_of censor) self.now.opening.now.known (sets_of self.now.opening.now.secrets) asked.now.question }
+        requires yes { outlook.on_yes ≡ (decided_by (good_of censor) (table_of censor) self.now.opening.now.known (sets_of self.now.opening.now.secrets) asked.now.question Yes).reply }
+        requires no { outlook.on_no ≡ (decided_by (good_of censor) (table_of censor) self.now.opening.now.known (sets_of self.now.opening.now.secrets) asked.now.question No).reply }
+    {
+        let number = asked.number;
+        let text = Shown { text: asked.text };
+        println!(self.rt; "    question {number}, {text}: {outlook}")
+    }
 }

@@ -40,15 +40,10 @@ impl fmt::Display for ExplainedRefusal {
         let number = self.refusal.number;
         let reason = self.reason;
         write!(f, "refusal {number}, {reason}: ")?;
-        write_item(f, self.refusal.item)?;
+        if let Some(item) = self.refusal.item {
+            write!(f, "sentence {item}, ")?;
+        }
         write_returned(f, self.refusal.returned)
-    }
-}
-
-fn write_item<W: fmt::Write>(f: &mut fmt::Formatter<W>, item: Option<usize>) -> fmt::Result {
-    match item {
-        Some(item) => write!(f, "sentence {item}, "),
-        None => Ok(()),
     }
 }
 
@@ -56,7 +51,7 @@ fn write_returned<W: fmt::Write>(f: &mut fmt::Formatter<W>, returned: Returned) 
     match returned {
         Returned::Place(place) => write!(f, "place {place}"),
         Returned::Index(index) => write!(f, "index {index}"),
-        Returned::Kind(kind) => f.write_str(kind.word()),
+        Returned::Kind(kind) => write!(f, "{kind}"),
     }
 }
 

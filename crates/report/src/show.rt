@@ -1,11 +1,10 @@
 // How texts and sets of sheets are printed.
-ghost use Rattle.std.specs.Prelude.{◌≡◌, ◌+◌, ◌≤◌, min, take, IfOk};
+ghost use Rattle.std.specs.Prelude.{◌≡◌, ◌+◌, ◌≤◌, min, take};
 ghost use Rattle.sheets.specs.Sets.{mem, count as count_of};
-ghost use Rattle.report.specs.Passing.{passing};
+ghost use Rattle.sheets.specs.Passing.{passing};
 ghost use Rattle.report.specs.Printed.{columns};
 
 use sheets::SheetSet;
-use std::alloc::{AllocError, Global};
 use std::{fmt, io};
 
 // The longest text that a sentence can have.
@@ -63,19 +62,6 @@ fn caret_width(place: usize) -> usize
     place.min(TEXT_LIMIT) + 1
 }
 
-// The set's sheets, in their order.
-fn members(heap: Global, set: &SheetSet) -> Result<Vec<u16>, AllocError>
-    ensures { IfOk result (λ v. v.items ≡ passing (mem set.now) 256) }
-{
-    let mut sheets = Vec::new(heap);
-    for sheet in 0..256u16 {
-        if set.has(sheet) {
-            sheets.push(sheet)?;
-        }
-    }
-    Ok(sheets)
-}
-
 // Sheets that stand on one line.
 #[derive(Clone, Copy)]
 struct Row<'a> {
@@ -94,7 +80,7 @@ impl fmt::Display for Row<'_> {
 // In how many of a box's sheets a sentence is true, and in which.
 pub fn print_set(rt: &HostRuntime, set: &SheetSet, all: u16) -> io::Result<()> {
     print_count(rt, set, set.count(), all)?;
-    let sheets = members(rt.alloc(), set)?;
+    let sheets = set.members(rt.alloc())?;
     print_members(rt, set, sheets.as_slice())
 }
 

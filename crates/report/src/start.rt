@@ -16,24 +16,10 @@ pub fn sheets_of(names: &Names) -> SheetSet
     SheetSet::below(names.count())
 }
 
-// The sheets that keep every house rule.
-pub fn keeping(names: &Names, rules: &SentenceList) -> SheetSet
-    ensures { result ≡ fold meet_of (set_of (λ s. nat_lt s (2 ^ length (words_of names.now)))) (sets_of rules.now) }
-{
-    let mut kept = sheets_of(names);
-    for set in rules.sets() {
-        kept = kept.meet(set);
-    }
-    kept
-}
-
 // The sheets that keep every house rule, and the prior where there is one.
 pub fn starting_record(names: &Names, rules: &SentenceList, prior: Option<SheetSet>) -> SheetSet
     ensures { result ≡ fold meet_of (set_of (λ s. nat_lt s (2 ^ length (words_of names.now)))) (sets_of rules.now ++ option_to_list prior) }
 {
-    let kept = keeping(names, rules);
-    match prior {
-        Some(prior) => kept.meet(&prior),
-        None => kept,
-    }
+    let kept = rules.keeping(names);
+    prior.map_or(kept, |prior| kept.meet(&prior))
 }

@@ -1,11 +1,10 @@
-use Rattle.std.proofs.Common.{arith}
+use Rattle.std.proofs.Common.{rules, ◌≡◌, ℕ, ◌<◌, ◌≤◌, length, get_or}
 use Rattle.report.proofs.Places.{first_other}
 use Rattle.report.proofs.input.leading_blanks.Goals as goal
 
-pub returns-then-byte-ne32-clause-first : goal.returns-then-byte-ne32-clause-first
-returns-then-byte-ne32-clause-first c =
-    first_other 32 c.args.text.now c.loop-place.place (omega arith) c.loop-place.invariant (λ _. c.if-byte-ne32.true)
-
 pub returns-clause-first : goal.returns-clause-first
 returns-clause-first c =
-    first_other 32 c.args.text.now _ (omega arith) (λ k lt. c.loop-place.invariant k (omega arith)) (λ lt. absurd (omega arith))
+    let within : c.unwrap_or.result ≤ length c.args.text.now = search rules in
+    let before : (k : ℕ) → k < c.unwrap_or.result → get_or c.args.text.now k 0 ≡ 32 = search rules in
+    let stops : c.unwrap_or.result < length c.args.text.now → get_or c.args.text.now c.unwrap_or.result 0 ≡ 32 → ⊥ = search rules in
+    first_other c.args.text.now c.unwrap_or.result within before stops

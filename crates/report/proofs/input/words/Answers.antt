@@ -1,17 +1,12 @@
-use Rattle.std.proofs.Common.{◌++◌, ap, sym, ◌∙◌}
-use Rattle.std.proofs.lemmas.List.{append-nil}
-use Rattle.report.specs.Lines.{words_of}
-use Rattle.report.proofs.Words.{after_gap, after_word, map_push}
+use Rattle.std.proofs.Common.{length, nat_eq, nat_lt, arith, rules, tests}
+use Rattle.std.proofs.lemmas.Bool.Decides.{nat_tests}
+use Rattle.std.proofs.lemmas.Iterator.Consumers.{map_from_collect, YieldsList-from_filter}
+use Rattle.std.proofs.lemmas.Iterator.Splits.{YieldsList-from_slice_split}
 use Rattle.report.proofs.input.words.Goals as goal
 
-pub loop-word-preserved : goal.loop-word-preserved
-loop-word-preserved c =
-    (after_gap _ c.loop-word.word-iterator.rest.now _ c.in-Some.word.now _ _ c.loop-word.invariant.1 c.in-Some.ensures.steps.0 c.in-Some.ensures.steps.1 c.loop-word.invariant.0 (sym c.if-not-is_empty.ensures), c.in-Some.ensures.steps.2 ∙ c.loop-word.invariant.1)
-
-pub loop-word-preserved-in-Continue-1 : goal.loop-word-preserved-in-Continue-1
-loop-word-preserved-in-Continue-1 c =
-    let pushed = map_push (λ word. word.now) c.loop-word.words.items c.push.new.self.items c.in-Some.word c.in_ok-push.ensures.items in
-    (ap (λ ws. ws ++ words_of c.next.new.self.rest.now) pushed ∙ after_word _ c.loop-word.word-iterator.rest.now _ c.in-Some.word.now _ _ c.loop-word.invariant.1 c.in-Some.ensures.steps.0 c.in-Some.ensures.steps.1 c.loop-word.invariant.0 (sym c.if-not-is_empty.ensures), c.in-Some.ensures.steps.2 ∙ c.loop-word.invariant.1)
-
 pub returns : goal.returns
-returns c = let h = c.in-None.ensures.steps in let k = c.loop-word.invariant.0 in sym (append-nil _) ∙ (rw h at k)
+returns c =
+    map_from_collect _ c.collect.ensures.ran
+    (YieldsList-from_filter _ (λ word. nat_lt 0 (length word))
+    (YieldsList-from_slice_split _ (λ b. nat_eq b 32) c.args.text.now (cc) (cc) (cc) (λ x b q k. search (rules, tests)))
+    c.filter.ensures.closure (λ x b q k. grind (arith, nat_tests)))
