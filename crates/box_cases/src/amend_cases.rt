@@ -3,16 +3,16 @@ use super::boxes::{
     BOTH, EIGHT_FACTS, FULL_FALSE, FULL_TRUE, LATE_FALSE, LATE_TRUE, LYING, REFUSING, RULED,
     SOLD_FALSE, SOLD_TRUE, TWO_RULES,
 };
-use super::calls::Call;
+use super::calls::{Call, Opening};
+use super::checks::Checks;
 use super::lists::Listing;
 use super::outcomes::{Expected, NO, Outcome, YES};
-use super::stories::{Step, Story, run_group};
-use super::tally::Tally;
+use super::stories::{Step, Story, run_all};
 use censors::question::Reply;
 use histories::data::Change;
 use histories::refusals::About;
 
-const STORIES: &[Story] = &[
+const STORIES: &[Story<Opening, Call>] = &[
     Story {
         what: "slips are out",
         opening: REFUSING,
@@ -844,6 +844,6 @@ const STORIES: &[Story] = &[
     },
 ];
 
-pub(crate) fn run(rt: &HostRuntime, sum: &mut Tally) -> anyhow::Result<()> {
-    run_group(rt, sum, "amend", STORIES)
+pub(crate) fn run(checks: &mut Checks) -> anyhow::Result<()> {
+    run_all(checks, STORIES)
 }

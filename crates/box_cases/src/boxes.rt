@@ -26,63 +26,45 @@ pub const REFUSING: Opening = Opening {
 
 pub const LYING: Opening = Opening {
     censor: Builtin::Lying,
-    number: 7,
-    names: THREE_NAMES,
-    rules: NO_RULES,
-    sheet: 3,
+    ..REFUSING
 };
 
 pub const COMBINED: Opening = Opening {
     censor: Builtin::Combined,
-    number: 7,
-    names: THREE_NAMES,
-    rules: NO_RULES,
-    sheet: 3,
+    ..REFUSING
 };
 
 // Full and late must not both be true; full is, the others are not.
 pub const RULED: Opening = Opening {
-    censor: Builtin::Refusing,
-    number: 7,
-    names: THREE_NAMES,
     rules: Listing::Texts(&["!full | !late"]),
     sheet: 1,
+    ..REFUSING
 };
 
 // Some fact must be true, and full and late must not both be.
 pub const TWO_RULES: Opening = Opening {
-    censor: Builtin::Refusing,
-    number: 7,
-    names: THREE_NAMES,
     rules: Listing::Texts(&["full | late | sold", "!full | !late"]),
     sheet: 1,
+    ..REFUSING
 };
 
 // Eight facts, all true.
 pub const EIGHT_FACTS: Opening = Opening {
-    censor: Builtin::Refusing,
-    number: 7,
     names: EIGHT_NAMES,
-    rules: NO_RULES,
     sheet: 255,
+    ..REFUSING
 };
 
 // As the refusing box, but for its number.
 pub const OTHER_NUMBER: Opening = Opening {
-    censor: Builtin::Refusing,
     number: 8,
-    names: THREE_NAMES,
-    rules: NO_RULES,
-    sheet: 3,
+    ..REFUSING
 };
 
 // As the refusing box, number included, but no fact is true.
 pub const OTHER_SHEET: Opening = Opening {
-    censor: Builtin::Refusing,
-    number: 7,
-    names: THREE_NAMES,
-    rules: NO_RULES,
     sheet: 0,
+    ..REFUSING
 };
 
 pub const FULL_TRUE: Change = Change {

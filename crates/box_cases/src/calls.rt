@@ -2,7 +2,6 @@
 use super::lists::Listing;
 use super::outcomes::{Outcome, YES};
 use censors::builtin::Builtin;
-use censors::question::{Reply, Value};
 use desks::Desk;
 use histories::data::{BoxFault, Change, Note};
 use querybox::query_box::QueryBox;
@@ -38,11 +37,18 @@ pub enum Call {
     Remaining(usize),
 }
 
-// Names a counterparty that no box has: an amendment that leaves it alone has written no note there.
-const UNWRITTEN: usize = 99;
+// A note to a counterparty that no box has: an amendment that leaves it alone has written no note there.
+const UNWRITTEN: Note = Note {
+    counterparty: 99,
+    place: 99,
+    reply: YES,
+};
 
 impl Opening {
-    pub(crate) fn open(&self, heap: Global) -> anyhow::Result<Result<QueryBox<Builtin>, BoxFault>> {
+    pub(crate) fn query_box(
+        &self,
+        heap: Global,
+    ) -> anyhow::Result<Result<QueryBox<Builtin>, BoxFault>> {
         let names = self.names.pieces(heap)?;
         let rules = self.rules.pieces(heap)?;
         let names_list = self.names.list(&names)?;
@@ -74,7 +80,7 @@ impl Call {
                 Ok(amend(desk, changes, notes.as_mut_slice()))
             }
             Call::Note(index) => Ok(note_at(notes.as_slice(), index)),
-            Call::Unwritten(from) => Ok(Outcome::Unwritten(unwritten(notes.as_slice(), from))),
+            Call::Unwritten(from) => Ok(unwritten(notes.as_slice(), from)),
             Call::Held(counterparty, place) => Ok(held(desk, counterparty, place)),
             Call::Remaining(counterparty) => Ok(remaining(desk, counterparty)),
         }
@@ -89,74 +95,56 @@ pub(crate) fn enrol(
 ) -> anyhow::Result<Outcome> {
     let pieces = secrets.pieces(heap)?;
     let list = secrets.list(&pieces)?;
-    Ok(match desk.enrol(prior, &list) {
-        Ok(counterparty) => Outcome::Enrolled(counterparty),
-        Err(fault) => Outcome::Refused(fault.refusal()),
-    })
+    Ok(
+        desk.enrol(prior, &list)
+            .map_or_else(Outcome::from, Outcome::Enrolled),
+    )
 }
 
 pub(crate) fn judge(desk: &mut Desk<Builtin>, counterparty: usize, text: &[u8]) -> Outcome {
-    match desk.judge(counterparty, text) {
-        Ok(face) => Outcome::Judged(face.counterparty, face.place),
-        Err(fault) => Outcome::Refused(fault.refusal()),
-    }
+    desk.judge(counterparty, text)
+        .map_or_else(Outcome::from, |face| {
+            Outcome::Judged(face.counterparty, face.place)
+        })
 }
 
 pub(crate) fn enter(desk: &mut Desk<Builtin>, counterparty: usize) -> Outcome {
-    match desk.enter(counterparty) {
-        Some(reply) => Outcome::Replied(reply),
-        None => Outcome::NoSlip,
-    }
+    desk.enter(counterparty)
+        .map_or(Outcome::NoSlip, Outcome::Replied)
 }
 
 pub(crate) fn amend(desk: &mut Desk<Builtin>, changes: &[Change], notes: &mut [Note]) -> Outcome {
-    match desk.amend(changes, notes) {
-        Ok(count) => Outcome::Amended(count),
-        Err(fault) => Outcome::Refused(fault.refusal()),
-    }
+    desk.amend(changes, notes)
+        .map_or_else(Outcome::from, Outcome::Amended)
 }
 
 pub(crate) fn held(desk: &Desk<Builtin>, counterparty: usize, place: usize) -> Outcome {
-    match desk.held(counterparty, place) {
-        Ok(reply) => Outcome::Held(reply),
-        Err(fault) => Outcome::Refused(fault.refusal()),
-    }
+    desk.held(counterparty, place)
+        .map_or_else(Outcome::from, Outcome::Held)
 }
 
 pub(crate) fn remaining(desk: &Desk<Builtin>, counterparty: usize) -> Outcome {
-    match desk.remaining(counterparty) {
-        Ok(count) => Outcome::Remaining(count),
-        Err(fault) => Outcome::Refused(fault.refusal()),
-    }
+    desk.remaining(counterparty)
+        .map_or_else(Outcome::from, Outcome::Remaining)
 }
 
 pub(crate) fn unwritten_notes(heap: Global, room: usize) -> Result<Vec<Note>, AllocError> {
-    let blank = Note {
-        counterparty: UNWRITTEN,
-        place: UNWRITTEN,
-        reply: YES,
-    };
-    vec![in heap; blank; room]
+    vec![in heap; UNWRITTEN; room]
 }
 
 pub(crate) fn note_at(notes: &[Note], index: usize) -> Outcome {
-    match notes.get(index) {
-        Some(note) => Outcome::Note(note.counterparty, note.place, note.reply),
-        None => Outcome::NoNote,
-    }
+    notes
+        .get(index)
+        .copied()
+        .map_or(Outcome::NoNote, Outcome::from)
 }
 
-pub(crate) fn unwritten(notes: &[Note], from: usize) -> usize {
-    let mut count = 0usize;
-    for note in notes.iter().skip(from) {
-        if is_unwritten(note) {
-            count = count.saturating_add(1);
-        }
-    }
-    count
-}
-
-fn is_unwritten(note: &Note) -> bool {
-    let kept = note.counterparty == UNWRITTEN && note.place == UNWRITTEN;
-    kept && matches!(note.reply, Reply::Said(Value::Yes))
+// How many notes, from an index on, are as they were handed in.
+pub(crate) fn unwritten(notes: &[Note], from: usize) -> Outcome {
+    let count = notes
+        .iter()
+        .skip(from)
+        .filter(|note| **note == UNWRITTEN)
+        .count();
+    Outcome::Unwritten(count)
 }

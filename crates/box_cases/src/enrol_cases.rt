@@ -1,15 +1,15 @@
 // Enrolling: faults of the prior and of the secrets, their order, and records that are not good.
 use super::boxes::{BOTH, COMBINED, EITHER, LYING, REFUSING, RULED};
-use super::calls::Call;
+use super::calls::{Call, Opening};
+use super::checks::Checks;
 use super::lists::Listing;
 use super::outcomes::{Expected, Outcome};
-use super::stories::{Step, Story, run_group};
-use super::tally::Tally;
+use super::stories::{Step, Story, run_all};
 use histories::refusals::About;
 use sentences::cuts::Cut;
 use sentences::faults::ListKind;
 
-const STORIES: &[Story] = &[
+const STORIES: &[Story<Opening, Call>] = &[
     Story {
         what: "faults of a prior",
         opening: REFUSING,
@@ -477,6 +477,6 @@ const STORIES: &[Story] = &[
     },
 ];
 
-pub(crate) fn run(rt: &HostRuntime, sum: &mut Tally) -> anyhow::Result<()> {
-    run_group(rt, sum, "enrol", STORIES)
+pub(crate) fn run(checks: &mut Checks) -> anyhow::Result<()> {
+    run_all(checks, STORIES)
 }

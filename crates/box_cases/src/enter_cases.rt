@@ -1,13 +1,13 @@
 // Entering: slips of the box itself, and slips of another box, which match only by number, counterparty and place.
 use super::boxes::{BOTH, OTHER_NUMBER, OTHER_SHEET, REFUSING};
-use super::calls::Call;
+use super::calls::{Call, Opening};
+use super::checks::Checks;
 use super::outcomes::{Expected, NO, Outcome, YES};
-use super::pairs::{PairCall, PairStep, PairStory, run_pair_group};
-use super::stories::{Step, Story, run_group};
-use super::tally::Tally;
+use super::pairs::{Pair, PairCall};
+use super::stories::{Step, Story, run_all};
 use censors::question::Reply;
 
-const STORIES: &[Story] = &[Story {
+const STORIES: &[Story<Opening, Call>] = &[Story {
     what: "entering at home",
     opening: REFUSING,
     steps: &[
@@ -66,478 +66,494 @@ const STORIES: &[Story] = &[Story {
     ],
 }];
 
-const PAIRS: &[PairStory] = &[
-    PairStory {
+const PAIRS: &[Story<Pair, PairCall>] = &[
+    Story {
         what: "boxes with different numbers",
-        first: REFUSING,
-        second: OTHER_NUMBER,
+        opening: Pair {
+            first: REFUSING,
+            second: OTHER_NUMBER,
+        },
         steps: &[
-            PairStep {
+            Step {
                 call: PairCall::First(Call::Enrol(None, BOTH)),
                 expected: Expected::Is(Outcome::Enrolled(0)),
             },
-            PairStep {
+            Step {
                 call: PairCall::Second(Call::Enrol(None, BOTH)),
                 expected: Expected::Is(Outcome::Enrolled(0)),
             },
-            PairStep {
+            Step {
                 call: PairCall::First(Call::Judge(0, b"full")),
                 expected: Expected::Is(Outcome::Judged(0, 0)),
             },
-            PairStep {
+            Step {
                 call: PairCall::Second(Call::Judge(0, b"full")),
                 expected: Expected::Is(Outcome::Judged(0, 0)),
             },
-            PairStep {
+            Step {
                 call: PairCall::FirstTakes(0),
                 expected: Expected::SlipBack(0, 0),
             },
-            PairStep {
+            Step {
                 call: PairCall::SecondTakes(0),
                 expected: Expected::SlipBack(0, 0),
             },
-            PairStep {
+            Step {
                 call: PairCall::First(Call::Held(0, 0)),
                 expected: Expected::Is(Outcome::Held(None)),
             },
-            PairStep {
+            Step {
                 call: PairCall::Second(Call::Held(0, 0)),
                 expected: Expected::Is(Outcome::Held(None)),
             },
-            PairStep {
+            Step {
                 call: PairCall::First(Call::Remaining(0)),
                 expected: Expected::Is(Outcome::Remaining(8)),
             },
-            PairStep {
+            Step {
                 call: PairCall::Second(Call::Remaining(0)),
                 expected: Expected::Is(Outcome::Remaining(8)),
             },
-            PairStep {
+            Step {
                 call: PairCall::First(Call::Judge(0, b"late")),
                 expected: Expected::Counterparty(13, 0),
             },
-            PairStep {
+            Step {
                 call: PairCall::Second(Call::Judge(0, b"late")),
                 expected: Expected::Counterparty(13, 0),
             },
-            PairStep {
+            Step {
                 call: PairCall::First(Call::Enter(0)),
                 expected: Expected::Is(Outcome::Replied(YES)),
             },
-            PairStep {
+            Step {
                 call: PairCall::Second(Call::Enter(0)),
                 expected: Expected::Is(Outcome::Replied(YES)),
             },
-            PairStep {
+            Step {
                 call: PairCall::First(Call::Held(0, 0)),
                 expected: Expected::Is(Outcome::Held(Some(YES))),
             },
-            PairStep {
+            Step {
                 call: PairCall::Second(Call::Held(0, 0)),
                 expected: Expected::Is(Outcome::Held(Some(YES))),
             },
-            PairStep {
+            Step {
                 call: PairCall::First(Call::Remaining(0)),
                 expected: Expected::Is(Outcome::Remaining(4)),
             },
-            PairStep {
+            Step {
                 call: PairCall::FirstTakes(0),
                 expected: Expected::Is(Outcome::NoSlip),
             },
         ],
     },
-    PairStory {
+    Story {
         what: "a counterparty that the other box does not have",
-        first: REFUSING,
-        second: OTHER_SHEET,
+        opening: Pair {
+            first: REFUSING,
+            second: OTHER_SHEET,
+        },
         steps: &[
-            PairStep {
+            Step {
                 call: PairCall::Second(Call::Enrol(None, BOTH)),
                 expected: Expected::Is(Outcome::Enrolled(0)),
             },
-            PairStep {
+            Step {
                 call: PairCall::Second(Call::Enrol(None, BOTH)),
                 expected: Expected::Is(Outcome::Enrolled(1)),
             },
-            PairStep {
+            Step {
                 call: PairCall::Second(Call::Judge(0, b"full")),
                 expected: Expected::Is(Outcome::Judged(0, 0)),
             },
-            PairStep {
+            Step {
                 call: PairCall::FirstTakes(0),
                 expected: Expected::SlipBack(0, 0),
             },
-            PairStep {
+            Step {
                 call: PairCall::First(Call::Enrol(None, BOTH)),
                 expected: Expected::Is(Outcome::Enrolled(0)),
             },
-            PairStep {
+            Step {
                 call: PairCall::Second(Call::Judge(1, b"full")),
                 expected: Expected::Is(Outcome::Judged(1, 0)),
             },
-            PairStep {
+            Step {
                 call: PairCall::FirstTakes(1),
                 expected: Expected::SlipBack(1, 0),
             },
-            PairStep {
+            Step {
                 call: PairCall::First(Call::Remaining(0)),
                 expected: Expected::Is(Outcome::Remaining(8)),
             },
-            PairStep {
+            Step {
                 call: PairCall::First(Call::Remaining(1)),
                 expected: Expected::Counterparty(12, 1),
             },
-            PairStep {
+            Step {
                 call: PairCall::First(Call::Held(0, 0)),
                 expected: Expected::Is(Outcome::Held(None)),
             },
-            PairStep {
+            Step {
                 call: PairCall::Second(Call::Enter(1)),
                 expected: Expected::Is(Outcome::Replied(NO)),
             },
-            PairStep {
+            Step {
                 call: PairCall::Second(Call::Enter(0)),
                 expected: Expected::Is(Outcome::Replied(NO)),
             },
         ],
     },
-    PairStory {
+    Story {
         what: "a counterparty with no slip out",
-        first: REFUSING,
-        second: OTHER_SHEET,
+        opening: Pair {
+            first: REFUSING,
+            second: OTHER_SHEET,
+        },
         steps: &[
-            PairStep {
+            Step {
                 call: PairCall::First(Call::Enrol(None, BOTH)),
                 expected: Expected::Is(Outcome::Enrolled(0)),
             },
-            PairStep {
+            Step {
                 call: PairCall::Second(Call::Enrol(None, BOTH)),
                 expected: Expected::Is(Outcome::Enrolled(0)),
             },
-            PairStep {
+            Step {
                 call: PairCall::Second(Call::Judge(0, b"full")),
                 expected: Expected::Is(Outcome::Judged(0, 0)),
             },
-            PairStep {
+            Step {
                 call: PairCall::FirstTakes(0),
                 expected: Expected::SlipBack(0, 0),
             },
-            PairStep {
+            Step {
                 call: PairCall::First(Call::Held(0, 0)),
                 expected: Expected::Is(Outcome::Held(None)),
             },
-            PairStep {
+            Step {
                 call: PairCall::First(Call::Remaining(0)),
                 expected: Expected::Is(Outcome::Remaining(8)),
             },
-            PairStep {
+            Step {
                 call: PairCall::First(Call::Judge(0, b"late")),
                 expected: Expected::Is(Outcome::Judged(0, 0)),
             },
-            PairStep {
+            Step {
                 call: PairCall::First(Call::Enter(0)),
                 expected: Expected::Is(Outcome::Replied(YES)),
             },
-            PairStep {
+            Step {
                 call: PairCall::FirstTakes(0),
                 expected: Expected::SlipBack(0, 0),
             },
-            PairStep {
+            Step {
                 call: PairCall::First(Call::Remaining(0)),
                 expected: Expected::Is(Outcome::Remaining(4)),
             },
-            PairStep {
+            Step {
                 call: PairCall::Second(Call::Enter(0)),
                 expected: Expected::Is(Outcome::Replied(NO)),
             },
         ],
     },
-    PairStory {
+    Story {
         what: "a slip of another counterparty",
-        first: REFUSING,
-        second: OTHER_SHEET,
+        opening: Pair {
+            first: REFUSING,
+            second: OTHER_SHEET,
+        },
         steps: &[
-            PairStep {
+            Step {
                 call: PairCall::First(Call::Enrol(None, BOTH)),
                 expected: Expected::Is(Outcome::Enrolled(0)),
             },
-            PairStep {
+            Step {
                 call: PairCall::Second(Call::Enrol(None, BOTH)),
                 expected: Expected::Is(Outcome::Enrolled(0)),
             },
-            PairStep {
+            Step {
                 call: PairCall::First(Call::Enrol(None, BOTH)),
                 expected: Expected::Is(Outcome::Enrolled(1)),
             },
-            PairStep {
+            Step {
                 call: PairCall::Second(Call::Enrol(None, BOTH)),
                 expected: Expected::Is(Outcome::Enrolled(1)),
             },
-            PairStep {
+            Step {
                 call: PairCall::First(Call::Judge(0, b"full")),
                 expected: Expected::Is(Outcome::Judged(0, 0)),
             },
-            PairStep {
+            Step {
                 call: PairCall::Second(Call::Judge(1, b"full")),
                 expected: Expected::Is(Outcome::Judged(1, 0)),
             },
-            PairStep {
+            Step {
                 call: PairCall::FirstTakes(1),
                 expected: Expected::SlipBack(1, 0),
             },
-            PairStep {
+            Step {
                 call: PairCall::First(Call::Judge(0, b"full")),
                 expected: Expected::Counterparty(13, 0),
             },
-            PairStep {
+            Step {
                 call: PairCall::First(Call::Enter(0)),
                 expected: Expected::Is(Outcome::Replied(YES)),
             },
-            PairStep {
+            Step {
                 call: PairCall::Second(Call::Enter(1)),
                 expected: Expected::Is(Outcome::Replied(NO)),
             },
         ],
     },
-    PairStory {
+    Story {
         what: "a place behind",
-        first: REFUSING,
-        second: OTHER_SHEET,
+        opening: Pair {
+            first: REFUSING,
+            second: OTHER_SHEET,
+        },
         steps: &[
-            PairStep {
+            Step {
                 call: PairCall::First(Call::Enrol(None, BOTH)),
                 expected: Expected::Is(Outcome::Enrolled(0)),
             },
-            PairStep {
+            Step {
                 call: PairCall::Second(Call::Enrol(None, BOTH)),
                 expected: Expected::Is(Outcome::Enrolled(0)),
             },
-            PairStep {
+            Step {
                 call: PairCall::First(Call::Judge(0, b"full")),
                 expected: Expected::Is(Outcome::Judged(0, 0)),
             },
-            PairStep {
+            Step {
                 call: PairCall::First(Call::Enter(0)),
                 expected: Expected::Is(Outcome::Replied(YES)),
             },
-            PairStep {
+            Step {
                 call: PairCall::First(Call::Judge(0, b"late")),
                 expected: Expected::Is(Outcome::Judged(0, 1)),
             },
-            PairStep {
+            Step {
                 call: PairCall::Second(Call::Judge(0, b"full")),
                 expected: Expected::Is(Outcome::Judged(0, 0)),
             },
-            PairStep {
+            Step {
                 call: PairCall::FirstTakes(0),
                 expected: Expected::SlipBack(0, 0),
             },
-            PairStep {
+            Step {
                 call: PairCall::First(Call::Held(0, 1)),
                 expected: Expected::Is(Outcome::Held(None)),
             },
-            PairStep {
+            Step {
                 call: PairCall::First(Call::Judge(0, b"sold")),
                 expected: Expected::Counterparty(13, 0),
             },
-            PairStep {
+            Step {
                 call: PairCall::First(Call::Enter(0)),
                 expected: Expected::Is(Outcome::Replied(Reply::Mum)),
             },
-            PairStep {
+            Step {
                 call: PairCall::Second(Call::Enter(0)),
                 expected: Expected::Is(Outcome::Replied(NO)),
             },
-            PairStep {
+            Step {
                 call: PairCall::First(Call::Remaining(0)),
                 expected: Expected::Is(Outcome::Remaining(4)),
             },
         ],
     },
-    PairStory {
+    Story {
         what: "a place ahead",
-        first: REFUSING,
-        second: OTHER_SHEET,
+        opening: Pair {
+            first: REFUSING,
+            second: OTHER_SHEET,
+        },
         steps: &[
-            PairStep {
+            Step {
                 call: PairCall::First(Call::Enrol(None, BOTH)),
                 expected: Expected::Is(Outcome::Enrolled(0)),
             },
-            PairStep {
+            Step {
                 call: PairCall::Second(Call::Enrol(None, BOTH)),
                 expected: Expected::Is(Outcome::Enrolled(0)),
             },
-            PairStep {
+            Step {
                 call: PairCall::Second(Call::Judge(0, b"full")),
                 expected: Expected::Is(Outcome::Judged(0, 0)),
             },
-            PairStep {
+            Step {
                 call: PairCall::Second(Call::Enter(0)),
                 expected: Expected::Is(Outcome::Replied(NO)),
             },
-            PairStep {
+            Step {
                 call: PairCall::Second(Call::Judge(0, b"late")),
                 expected: Expected::Is(Outcome::Judged(0, 1)),
             },
-            PairStep {
+            Step {
                 call: PairCall::First(Call::Judge(0, b"full")),
                 expected: Expected::Is(Outcome::Judged(0, 0)),
             },
-            PairStep {
+            Step {
                 call: PairCall::FirstTakes(0),
                 expected: Expected::SlipBack(0, 1),
             },
-            PairStep {
+            Step {
                 call: PairCall::First(Call::Held(0, 0)),
                 expected: Expected::Is(Outcome::Held(None)),
             },
-            PairStep {
+            Step {
                 call: PairCall::First(Call::Judge(0, b"sold")),
                 expected: Expected::Counterparty(13, 0),
             },
-            PairStep {
+            Step {
                 call: PairCall::First(Call::Enter(0)),
                 expected: Expected::Is(Outcome::Replied(YES)),
             },
-            PairStep {
+            Step {
                 call: PairCall::Second(Call::Enter(0)),
                 expected: Expected::Is(Outcome::Replied(NO)),
             },
-            PairStep {
+            Step {
                 call: PairCall::Second(Call::Remaining(0)),
                 expected: Expected::Is(Outcome::Remaining(2)),
             },
         ],
     },
-    PairStory {
+    Story {
         what: "boxes with equal numbers",
-        first: REFUSING,
-        second: OTHER_SHEET,
+        opening: Pair {
+            first: REFUSING,
+            second: OTHER_SHEET,
+        },
         steps: &[
-            PairStep {
+            Step {
                 call: PairCall::First(Call::Enrol(None, BOTH)),
                 expected: Expected::Is(Outcome::Enrolled(0)),
             },
-            PairStep {
+            Step {
                 call: PairCall::Second(Call::Enrol(None, BOTH)),
                 expected: Expected::Is(Outcome::Enrolled(0)),
             },
-            PairStep {
+            Step {
                 call: PairCall::First(Call::Judge(0, b"full")),
                 expected: Expected::Is(Outcome::Judged(0, 0)),
             },
-            PairStep {
+            Step {
                 call: PairCall::Second(Call::Judge(0, b"full")),
                 expected: Expected::Is(Outcome::Judged(0, 0)),
             },
-            PairStep {
+            Step {
                 call: PairCall::FirstTakes(0),
                 expected: Expected::Is(Outcome::Replied(YES)),
             },
-            PairStep {
+            Step {
                 call: PairCall::First(Call::Held(0, 0)),
                 expected: Expected::Is(Outcome::Held(Some(YES))),
             },
-            PairStep {
+            Step {
                 call: PairCall::First(Call::Remaining(0)),
                 expected: Expected::Is(Outcome::Remaining(4)),
             },
-            PairStep {
+            Step {
                 call: PairCall::Second(Call::Held(0, 0)),
                 expected: Expected::Is(Outcome::Held(None)),
             },
-            PairStep {
+            Step {
                 call: PairCall::Second(Call::Remaining(0)),
                 expected: Expected::Is(Outcome::Remaining(8)),
             },
-            PairStep {
+            Step {
                 call: PairCall::First(Call::Enter(0)),
                 expected: Expected::Is(Outcome::NoSlip),
             },
-            PairStep {
+            Step {
                 call: PairCall::Second(Call::Judge(0, b"late")),
                 expected: Expected::Counterparty(13, 0),
             },
-            PairStep {
+            Step {
                 call: PairCall::First(Call::Judge(0, b"late")),
                 expected: Expected::Is(Outcome::Judged(0, 1)),
             },
-            PairStep {
+            Step {
                 call: PairCall::Second(Call::Enter(0)),
                 expected: Expected::Is(Outcome::Replied(NO)),
             },
-            PairStep {
+            Step {
                 call: PairCall::Second(Call::Held(0, 0)),
                 expected: Expected::Is(Outcome::Held(Some(NO))),
             },
-            PairStep {
+            Step {
                 call: PairCall::Second(Call::Remaining(0)),
                 expected: Expected::Is(Outcome::Remaining(4)),
             },
-            PairStep {
+            Step {
                 call: PairCall::First(Call::Enter(0)),
                 expected: Expected::Is(Outcome::Replied(Reply::Mum)),
             },
         ],
     },
-    PairStory {
+    Story {
         what: "boxes with equal numbers and different questions",
-        first: REFUSING,
-        second: OTHER_SHEET,
+        opening: Pair {
+            first: REFUSING,
+            second: OTHER_SHEET,
+        },
         steps: &[
-            PairStep {
+            Step {
                 call: PairCall::First(Call::Enrol(None, BOTH)),
                 expected: Expected::Is(Outcome::Enrolled(0)),
             },
-            PairStep {
+            Step {
                 call: PairCall::Second(Call::Enrol(None, BOTH)),
                 expected: Expected::Is(Outcome::Enrolled(0)),
             },
-            PairStep {
+            Step {
                 call: PairCall::First(Call::Judge(0, b"late")),
                 expected: Expected::Is(Outcome::Judged(0, 0)),
             },
-            PairStep {
+            Step {
                 call: PairCall::Second(Call::Judge(0, b"sold")),
                 expected: Expected::Is(Outcome::Judged(0, 0)),
             },
-            PairStep {
+            Step {
                 call: PairCall::SecondTakes(0),
                 expected: Expected::Is(Outcome::Replied(NO)),
             },
-            PairStep {
+            Step {
                 call: PairCall::Second(Call::Remaining(0)),
                 expected: Expected::Is(Outcome::Remaining(4)),
             },
-            PairStep {
+            Step {
                 call: PairCall::First(Call::Held(0, 0)),
                 expected: Expected::Is(Outcome::Held(None)),
             },
-            PairStep {
+            Step {
                 call: PairCall::First(Call::Enter(0)),
                 expected: Expected::Is(Outcome::Replied(YES)),
             },
-            PairStep {
+            Step {
                 call: PairCall::First(Call::Remaining(0)),
                 expected: Expected::Is(Outcome::Remaining(4)),
             },
-            PairStep {
+            Step {
                 call: PairCall::First(Call::Judge(0, b"full")),
                 expected: Expected::Is(Outcome::Judged(0, 1)),
             },
-            PairStep {
+            Step {
                 call: PairCall::First(Call::Enter(0)),
                 expected: Expected::Is(Outcome::Replied(Reply::Mum)),
             },
-            PairStep {
+            Step {
                 call: PairCall::Second(Call::Judge(0, b"full")),
                 expected: Expected::Is(Outcome::Judged(0, 1)),
             },
-            PairStep {
+            Step {
                 call: PairCall::Second(Call::Enter(0)),
                 expected: Expected::Is(Outcome::Replied(NO)),
             },
-            PairStep {
+            Step {
                 call: PairCall::Second(Call::Remaining(0)),
                 expected: Expected::Is(Outcome::Remaining(2)),
             },
@@ -545,10 +561,10 @@ const PAIRS: &[PairStory] = &[
     },
 ];
 
-pub(crate) fn run(rt: &HostRuntime, sum: &mut Tally) -> anyhow::Result<()> {
-    run_group(rt, sum, "enter", STORIES)
+pub(crate) fn run(checks: &mut Checks) -> anyhow::Result<()> {
+    run_all(checks, STORIES)
 }
 
-pub(crate) fn run_pairs(rt: &HostRuntime, sum: &mut Tally) -> anyhow::Result<()> {
-    run_pair_group(rt, sum, "slips of another box", PAIRS)
+pub(crate) fn run_pairs(checks: &mut Checks) -> anyhow::Result<()> {
+    run_all(checks, PAIRS)
 }

@@ -1,12 +1,12 @@
 // Judging: what is refused and in which order, and that nothing moves before the slip is entered.
 use super::boxes::{BOTH, REFUSING};
-use super::calls::Call;
+use super::calls::{Call, Opening};
+use super::checks::Checks;
 use super::outcomes::{Expected, NO, Outcome, YES};
-use super::stories::{Step, Story, run_group};
-use super::tally::Tally;
+use super::stories::{Step, Story, run_all};
 use histories::refusals::About;
 
-const STORIES: &[Story] = &[
+const STORIES: &[Story<Opening, Call>] = &[
     Story {
         what: "no such counterparty",
         opening: REFUSING,
@@ -273,6 +273,6 @@ const STORIES: &[Story] = &[
     },
 ];
 
-pub(crate) fn run(rt: &HostRuntime, sum: &mut Tally) -> anyhow::Result<()> {
-    run_group(rt, sum, "judge", STORIES)
+pub(crate) fn run(checks: &mut Checks) -> anyhow::Result<()> {
+    run_all(checks, STORIES)
 }

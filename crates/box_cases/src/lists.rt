@@ -19,7 +19,7 @@ impl Listing {
     // The texts in a block; nothing for pairs that are written out.
     pub(crate) fn pieces(&self, heap: Global) -> Result<Pieces, AllocError> {
         match *self {
-            Listing::Texts(texts) => pieces_of(heap, texts),
+            Listing::Texts(texts) => Pieces::of(heap, texts),
             Listing::Cuts { block: _, cuts: _ } => Ok(Pieces::new(heap)),
         }
     }
@@ -29,17 +29,8 @@ impl Listing {
         if let Listing::Cuts { block, cuts } = *self {
             return Ok(CutList { block, cuts });
         }
-        match pieces.list() {
-            Some(list) => Ok(list),
-            None => Err(anyhow!("the texts of a case are too long for a list")),
-        }
+        pieces
+            .list()
+            .ok_or_else(|| anyhow!("the texts of a case are too long for a list"))
     }
-}
-
-fn pieces_of(heap: Global, texts: &[&str]) -> Result<Pieces, AllocError> {
-    let mut pieces = Pieces::new(heap);
-    for text in texts {
-        pieces.add(text.as_bytes())?;
-    }
-    Ok(pieces)
 }

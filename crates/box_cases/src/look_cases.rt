@@ -1,13 +1,13 @@
 // Held and remaining.
 use super::boxes::{BOTH, EIGHT_FACTS, REFUSING};
-use super::calls::Call;
+use super::calls::{Call, Opening};
+use super::checks::Checks;
 use super::lists::Listing;
 use super::outcomes::{Expected, Outcome, YES};
-use super::stories::{Step, Story, run_group};
-use super::tally::Tally;
+use super::stories::{Step, Story, run_all};
 use censors::question::Reply;
 
-const STORIES: &[Story] = &[
+const STORIES: &[Story<Opening, Call>] = &[
     Story {
         what: "looking up",
         opening: REFUSING,
@@ -158,6 +158,6 @@ const STORIES: &[Story] = &[
     },
 ];
 
-pub(crate) fn run(rt: &HostRuntime, sum: &mut Tally) -> anyhow::Result<()> {
-    run_group(rt, sum, "held and remaining", STORIES)
+pub(crate) fn run(checks: &mut Checks) -> anyhow::Result<()> {
+    run_all(checks, STORIES)
 }

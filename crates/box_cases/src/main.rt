@@ -1,12 +1,12 @@
 // Holds what boxes do on many calls to what the rules say.
 #![tactic(auto)]
 
-use anyhow::anyhow;
-use tally::Tally;
+use checks::Checks;
 
 mod amend_cases;
 mod boxes;
 mod calls;
+mod checks;
 mod enrol_cases;
 mod enter_cases;
 mod judge_cases;
@@ -18,48 +18,21 @@ mod outcomes;
 mod pairs;
 mod run_cases;
 mod stories;
-mod tally;
 
 fn main(rt: HostRuntime) -> anyhow::Result<()> {
-    run(&rt)
+    let mut checks = Checks::new(&rt);
+    run(&mut checks)?;
+    checks.conclude()
 }
 
-fn run(rt: &HostRuntime) -> anyhow::Result<()> {
-    let mut sum = Tally::new();
-    run_opening(rt, &mut sum)?;
-    run_calls(rt, &mut sum)?;
-    run_cases::run(rt, &mut sum)?;
-    enter_cases::run_pairs(rt, &mut sum)?;
-    run_limits(rt, &mut sum)?;
-    conclude(rt, sum)
-}
-
-fn run_opening(rt: &HostRuntime, sum: &mut Tally) -> anyhow::Result<()> {
-    let mut tally = Tally::new();
-    open_cases::run(rt, &mut tally)?;
-    tally.close(rt, "open", sum)
-}
-
-fn run_calls(rt: &HostRuntime, sum: &mut Tally) -> anyhow::Result<()> {
-    enrol_cases::run(rt, sum)?;
-    judge_cases::run(rt, sum)?;
-    enter_cases::run(rt, sum)?;
-    amend_cases::run(rt, sum)?;
-    look_cases::run(rt, sum)
-}
-
-fn run_limits(rt: &HostRuntime, sum: &mut Tally) -> anyhow::Result<()> {
-    let mut tally = Tally::new();
-    limit_cases::run(rt, &mut tally)?;
-    tally.close(rt, "a full box", sum)
-}
-
-fn conclude(rt: &HostRuntime, sum: Tally) -> anyhow::Result<()> {
-    let checks = sum.checks;
-    let wrong = sum.wrong;
-    println!(rt; "{checks} checks, {wrong} wrong")?;
-    if wrong > 0 {
-        return Err(anyhow!("some calls do not do what is expected"));
-    }
-    Ok(())
+fn run(checks: &mut Checks) -> anyhow::Result<()> {
+    checks.group("open", open_cases::run)?;
+    checks.group("enrol", enrol_cases::run)?;
+    checks.group("judge", judge_cases::run)?;
+    checks.group("enter", enter_cases::run)?;
+    checks.group("amend", amend_cases::run)?;
+    checks.group("held and remaining", look_cases::run)?;
+    checks.group("worked runs", run_cases::run)?;
+    checks.group("slips of another box", enter_cases::run_pairs)?;
+    checks.group("a full box", limit_cases::run)
 }

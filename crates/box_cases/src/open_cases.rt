@@ -1,13 +1,14 @@
 // Opening a box: what is wrong with names, house rules and sheet, and what is found first. No censor makes a difference.
 use super::boxes::{EIGHT_NAMES, NO_RULES, THREE_NAMES};
 use super::calls::Opening;
+use super::checks::Checks;
 use super::lists::Listing;
 use super::outcomes::{Expected, Outcome};
-use super::tally::Tally;
-use censors::builtin::Builtin;
+use censors::builtin::{BUILTINS, Builtin};
 use histories::refusals::About;
 use sentences::cuts::Cut;
 use sentences::faults::ListKind;
+use std::alloc::Global;
 
 struct OpenCase {
     what: &'static str,
@@ -341,23 +342,23 @@ const CASES: &[OpenCase] = &[
     },
 ];
 
-pub(crate) fn run(rt: &HostRuntime, tally: &mut Tally) -> anyhow::Result<()> {
-    for censor in [Builtin::Refusing, Builtin::Lying, Builtin::Combined] {
-        run_all(rt, tally, censor)?;
+pub(crate) fn run(checks: &mut Checks) -> anyhow::Result<()> {
+    for censor in BUILTINS {
+        run_all(checks, censor)?;
     }
     Ok(())
 }
 
-fn run_all(rt: &HostRuntime, tally: &mut Tally, censor: Builtin) -> anyhow::Result<()> {
+fn run_all(checks: &mut Checks, censor: Builtin) -> anyhow::Result<()> {
     for case in CASES {
-        let got = case.open(rt, censor)?;
-        tally.compare(rt, case.what, 0, case.expected.outcome(), got)?;
+        let got = case.open(checks.heap(), censor)?;
+        checks.compare(case.what, 0, case.expected.outcome(), got)?;
     }
     Ok(())
 }
 
 impl OpenCase {
-    fn open(&self, rt: &HostRuntime, censor: Builtin) -> anyhow::Result<Outcome> {
+    fn open(&self, heap: Global, censor: Builtin) -> anyhow::Result<Outcome> {
         let opening = Opening {
             censor,
             number: 7,
@@ -365,9 +366,7 @@ impl OpenCase {
             rules: self.rules,
             sheet: self.sheet,
         };
-        Ok(match opening.open(rt.alloc())? {
-            Ok(_) => Outcome::Opened,
-            Err(fault) => Outcome::Refused(fault.refusal()),
-        })
+        let query_box = opening.query_box(heap)?;
+        Ok(query_box.map_or_else(Outcome::from, |_| Outcome::Opened))
     }
 }

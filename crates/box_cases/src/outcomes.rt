@@ -1,5 +1,6 @@
 // What a call on a box comes to, and what is expected of it.
 use censors::question::{Reply, Value};
+use histories::data::{BoxFault, Note};
 use histories::refusals::{About, BoxRefusal, BoxReturned, SlipFace};
 use sentences::faults::{ListKind, Returned};
 
@@ -7,6 +8,7 @@ pub const YES: Reply = Reply::Said(Value::Yes);
 
 pub const NO: Reply = Reply::Said(Value::No);
 
+// Apart from what the console prints: tables write it short, and look at notes too.
 #[derive(Clone, Copy, PartialEq, Debug)]
 pub enum Outcome {
     Opened,
@@ -27,6 +29,18 @@ pub enum Outcome {
     Held(Option<Reply>),
     Remaining(u16),
     Refused(BoxRefusal),
+}
+
+impl From<BoxFault> for Outcome {
+    fn from(fault: BoxFault) -> Outcome {
+        Outcome::Refused(fault.refusal())
+    }
+}
+
+impl From<Note> for Outcome {
+    fn from(note: Note) -> Outcome {
+        Outcome::Note(note.counterparty, note.place, note.reply)
+    }
 }
 
 // What a table says of a call: its outcome, or the number of a refusal with what it is about and what it returns.

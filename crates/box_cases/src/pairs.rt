@@ -1,11 +1,12 @@
 // Stories of two boxes, with slips of one put into the other.
 use super::calls::{Call, Opening};
-use super::outcomes::{Expected, Outcome};
-use super::stories::open_desk;
-use super::tally::Tally;
+use super::checks::Checks;
+use super::outcomes::Outcome;
+use super::stories::Setting;
 use censors::builtin::Builtin;
 use desks::Desk;
 use histories::data::Note;
+use std::alloc::Global;
 
 #[derive(Clone, Copy)]
 pub enum PairCall {
@@ -17,47 +18,54 @@ pub enum PairCall {
 }
 
 #[derive(Clone, Copy)]
-pub struct PairStep {
-    pub call: PairCall,
-    pub expected: Expected,
-}
-
-#[derive(Clone, Copy)]
-pub struct PairStory {
-    pub what: &'static str,
+pub struct Pair {
     pub first: Opening,
     pub second: Opening,
-    pub steps: &'static [PairStep],
 }
 
-// Runs the stories of a group, and adds its count to the sum.
-pub(crate) fn run_pair_group(
-    rt: &HostRuntime,
-    sum: &mut Tally,
-    name: &str,
-    stories: &[PairStory],
-) -> anyhow::Result<()> {
-    let mut tally = Tally::new();
-    for story in stories {
-        story.run(rt, &mut tally)?;
+pub struct PairDesks {
+    first: Desk<Builtin>,
+    second: Desk<Builtin>,
+}
+
+impl Setting for Pair {
+    type Desks = PairDesks;
+
+    type Call = PairCall;
+
+    fn open(&self, checks: &mut Checks, what: &str) -> anyhow::Result<Option<PairDesks>> {
+        let Some(first) = self.first.open(checks, what)? else {
+            return Ok(None);
+        };
+        // A match, since the first box has to be closed on both ways out.
+        let not_opened = match self.second.open(checks, what) {
+            Ok(Some(second)) => return Ok(Some(PairDesks { first, second })),
+            Ok(None) => Ok(None),
+            Err(error) => Err(error),
+        };
+        first.close();
+        not_opened
     }
-    tally.close(rt, name, sum)
-}
 
-impl PairCall {
     fn put(
-        &self,
-        rt: &HostRuntime,
-        first: &mut Desk<Builtin>,
-        second: &mut Desk<Builtin>,
+        heap: Global,
+        desks: &mut PairDesks,
+        call: &PairCall,
         notes: &mut Vec<Note>,
     ) -> anyhow::Result<Outcome> {
-        match *self {
-            PairCall::First(call) => call.put(rt.alloc(), first, notes),
-            PairCall::Second(call) => call.put(rt.alloc(), second, notes),
+        let PairDesks { first, second } = desks;
+        match *call {
+            PairCall::First(call) => call.put(heap, first, notes),
+            PairCall::Second(call) => call.put(heap, second, notes),
             PairCall::FirstTakes(counterparty) => Ok(enter_from(first, second, counterparty)),
             PairCall::SecondTakes(counterparty) => Ok(enter_from(second, first, counterparty)),
         }
+    }
+
+    fn close(desks: PairDesks) {
+        let PairDesks { first, second } = desks;
+        second.close();
+        first.close();
     }
 }
 
@@ -66,45 +74,5 @@ fn enter_from(desk: &mut Desk<Builtin>, other: &mut Desk<Builtin>, counterparty:
         Some(Ok(reply)) => Outcome::Replied(reply),
         Some(Err(refusal)) => Outcome::Refused(refusal),
         None => Outcome::NoSlip,
-    }
-}
-
-impl PairStory {
-    fn run(&self, rt: &HostRuntime, tally: &mut Tally) -> anyhow::Result<()> {
-        let Some(mut first) = open_desk(rt, tally, self.what, &self.first)? else {
-            return Ok(());
-        };
-        let done = self.run_with(rt, tally, &mut first);
-        first.close();
-        done
-    }
-
-    fn run_with(
-        &self,
-        rt: &HostRuntime,
-        tally: &mut Tally,
-        first: &mut Desk<Builtin>,
-    ) -> anyhow::Result<()> {
-        let Some(mut second) = open_desk(rt, tally, self.what, &self.second)? else {
-            return Ok(());
-        };
-        let done = self.run_steps(rt, tally, first, &mut second);
-        second.close();
-        done
-    }
-
-    fn run_steps(
-        &self,
-        rt: &HostRuntime,
-        tally: &mut Tally,
-        first: &mut Desk<Builtin>,
-        second: &mut Desk<Builtin>,
-    ) -> anyhow::Result<()> {
-        let mut notes: Vec<Note> = Vec::new(rt.alloc());
-        for (index, step) in self.steps.iter().enumerate() {
-            let got = step.call.put(rt, first, second, &mut notes)?;
-            tally.compare(rt, self.what, index, step.expected.outcome(), got)?;
-        }
-        Ok(())
     }
 }

@@ -1,13 +1,13 @@
 // Whole runs: questions one after the other under each censor, and what an amendment makes of them.
 use super::boxes::{BOTH, COMBINED, EITHER, FULL_FALSE, LYING, REFUSING};
-use super::calls::Call;
+use super::calls::{Call, Opening};
+use super::checks::Checks;
 use super::lists::Listing;
 use super::outcomes::{Expected, NO, Outcome, YES};
-use super::stories::{Step, Story, run_group};
-use super::tally::Tally;
+use super::stories::{Step, Story, run_all};
 use censors::question::Reply;
 
-const STORIES: &[Story] = &[
+const STORIES: &[Story<Opening, Call>] = &[
     Story {
         what: "refusing",
         opening: REFUSING,
@@ -474,6 +474,6 @@ const STORIES: &[Story] = &[
     },
 ];
 
-pub(crate) fn run(rt: &HostRuntime, sum: &mut Tally) -> anyhow::Result<()> {
-    run_group(rt, sum, "worked runs", STORIES)
+pub(crate) fn run(checks: &mut Checks) -> anyhow::Result<()> {
+    run_all(checks, STORIES)
 }

@@ -22,10 +22,7 @@ pub(crate) fn ask<C: Censor>(
 ) -> Result<Replied, BoxFault>
     ensures { Asked C.Censor.good C.Censor.decided C.Censor.after query_box.old counterparty text.now result query_box.new }
 {
-    let slip = match query_box.judge(counterparty, text) {
-        Ok(slip) => slip,
-        Err(fault) => return Err(fault),
-    };
+    let slip = query_box.judge(counterparty, text)?;
     let ReadSlip {
         slip,
         counterparty: _,

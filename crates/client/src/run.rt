@@ -1,111 +1,88 @@
 // The calls on a box, one after the other, under each censor of the library.
 use super::asking::ask;
-use anyhow::anyhow;
-use censors::builtin::Builtin;
-use censors::question::Reply;
-use histories::data::{Change, Note};
+use anyhow::{Context, anyhow};
+use censors::builtin::{BUILTINS, Builtin};
+use histories::data::{BLANK_NOTE, Change, MOST_NOTES};
 use pieces::Pieces;
 use querybox::query_box::QueryBox;
-use sentences::cuts::CutList;
-use std::alloc::{AllocError, Global};
-use std::io;
 
-// As many notes as an amendment can write.
-const MOST_NOTES: usize = 512;
+// A box, and a counterparty that is enrolled with it.
+#[derive(Drop)]
+struct Session<'a> {
+    rt: &'a HostRuntime,
+    query_box: QueryBox<Builtin>,
+    counterparty: usize,
+}
 
 pub(crate) fn run(rt: &HostRuntime) -> anyhow::Result<()> {
-    let names = pieces_of(rt.alloc(), &["full", "late", "sold"])?;
-    let rules = pieces_of(rt.alloc(), &[])?;
-    let secrets = pieces_of(rt.alloc(), &["full & late"])?;
-    for censor in [Builtin::Refusing, Builtin::Lying, Builtin::Combined] {
-        let names = list_of(&names)?;
-        let rules = list_of(&rules)?;
-        let secrets = list_of(&secrets)?;
-        let Ok(query_box) = QueryBox::open(censor, 7, &names, &rules, 3) else {
-            return Err(anyhow!("the box is not opened"));
+    let names = Pieces::of(rt.alloc(), &["full", "late", "sold"])?;
+    let rules = Pieces::new(rt.alloc());
+    let secrets = Pieces::of(rt.alloc(), &["full & late"])?;
+    let names = names.list().context("a list is too long")?;
+    let rules = rules.list().context("a list is too long")?;
+    let secrets = secrets.list().context("a list is too long")?;
+    for censor in BUILTINS {
+        let mut query_box = QueryBox::open(censor, 7, &names, &rules, 3).map_err(|_fault| anyhow!(
+            "the box is not opened"
+        ))?;
+        let counterparty = query_box
+            .enrol(None, &secrets)
+            .map_err(|_fault| anyhow!("the counterparty is not enrolled"))?;
+        let mut session = Session {
+            rt,
+            query_box,
+            counterparty,
         };
-        let mut query_box = query_box;
-        let Ok(counterparty) = query_box.enrol(None, &secrets) else {
-            return Err(anyhow!("the counterparty is not enrolled"));
-        };
-        put_all(rt, &mut query_box, counterparty)?;
-        amend_full(rt, &mut query_box, counterparty)?;
+        session.put_all()?;
+        session.amend_full()?;
     }
     Ok(())
 }
 
-fn pieces_of(heap: Global, texts: &[&str]) -> Result<Pieces, AllocError> {
-    let mut pieces = Pieces::new(heap);
-    for text in texts {
-        pieces.add(text.as_bytes())?;
-    }
-    Ok(pieces)
-}
-
-fn list_of(pieces: &Pieces) -> anyhow::Result<CutList<'_>> {
-    match pieces.list() {
-        Some(list) => Ok(list),
-        None => Err(anyhow!("a list is too long")),
-    }
-}
-
-fn put_all(
-    rt: &HostRuntime,
-    query_box: &mut QueryBox<Builtin>,
-    counterparty: usize,
-) -> anyhow::Result<()> {
-    println!(rt; "counterparty {counterparty}:")?;
-    for text in ["full", "late", "sold", "full", "late & ", "ship"] {
-        match ask(query_box, counterparty, text.as_bytes()) {
-            Ok(replied) => {
-                let place = replied.place;
-                let reply = replied.reply.word();
-                println!(rt; "  {place} {text}: {reply}")?;
+impl Session<'_> {
+    fn put_all(&mut self) -> anyhow::Result<()> {
+        let counterparty = self.counterparty;
+        println!(self.rt; "counterparty {counterparty}:")?;
+        for text in ["full", "late", "sold", "full", "late & ", "ship"] {
+            match ask(&mut self.query_box, counterparty, text.as_bytes()) {
+                Ok(replied) => {
+                    let place = replied.place;
+                    let reply = replied.reply;
+                    println!(self.rt; "  {place} {text}: {reply}")?;
+                }
+                Err(_fault) => println!(self.rt; "  {text}: refused")?,
             }
-            Err(_fault) => println!(rt; "  {text}: refused")?,
         }
+        self.print_left()
     }
-    print_left(rt, query_box, counterparty)
-}
 
-// Full becomes untrue.
-fn amend_full(
-    rt: &HostRuntime,
-    query_box: &mut QueryBox<Builtin>,
-    counterparty: usize,
-) -> anyhow::Result<()> {
-    let mut notes = [Note {
-        counterparty: 0,
-        place: 0,
-        reply: Reply::Mum,
-    }; MOST_NOTES];
-    let change = Change {
-        fact: 0,
-        value: false,
-    };
-    let Ok(count) = query_box.amend(&[change], &mut notes) else {
-        return Err(anyhow!("the amendment is turned down"));
-    };
-    println!(rt; "  notes: {count}")?;
-    for note in notes.iter().take(count) {
-        let place = note.place;
-        let reply = note.reply.word();
-        println!(rt; "    {place}: {reply}")?;
+    // Full becomes untrue.
+    fn amend_full(&mut self) -> anyhow::Result<()> {
+        let mut notes = [BLANK_NOTE; MOST_NOTES];
+        let change = Change {
+            fact: 0,
+            value: false,
+        };
+        let count = self
+            .query_box
+            .amend(&[change], &mut notes)
+            .map_err(|_fault| anyhow!("the amendment is turned down"))?;
+        println!(self.rt; "  notes: {count}")?;
+        for note in notes.iter().take(count) {
+            let place = note.place;
+            let reply = note.reply;
+            println!(self.rt; "    {place}: {reply}")?;
+        }
+        self.print_left()
     }
-    print_left(rt, query_box, counterparty)
-}
 
-fn print_left(
-    rt: &HostRuntime,
-    query_box: &QueryBox<Builtin>,
-    counterparty: usize,
-) -> anyhow::Result<()> {
-    if let Ok(sheets) = query_box.remaining(counterparty) {
-        println!(rt; "  sheets left: {sheets}")?;
+    fn print_left(&self) -> anyhow::Result<()> {
+        if let Ok(sheets) = self.query_box.remaining(self.counterparty) {
+            println!(self.rt; "  sheets left: {sheets}")?;
+        }
+        if let Ok(Some(reply)) = self.query_box.held(self.counterparty, 0) {
+            println!(self.rt; "  held at 0: {reply}")?;
+        }
+        Ok(())
     }
-    if let Ok(Some(reply)) = query_box.held(counterparty, 0) {
-        let reply = reply.word();
-        println!(rt; "  held at 0: {reply}")?;
-    }
-    Ok(())
 }

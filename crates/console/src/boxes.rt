@@ -1,9 +1,10 @@
 // The two boxes of a script, and the calls made to them.
-use super::command::{BoxName, Command, Opening};
+use super::command::{BoxCall, BoxName, Command, Opening};
 use super::flaws::Flaw;
-use super::open_box::{OpenBox, Opened};
-use super::outcome::Outcome;
+use super::open_box::OpenBox;
+use super::outcome::{NotDone, Outcome};
 use std::alloc::Global;
+use std::io;
 
 // A box is there once it is open.
 pub(crate) struct Boxes {
@@ -16,6 +17,7 @@ impl Boxes {
         Boxes { a: None, b: None }
     }
 
+    // A box may not be let go, so no iterator takes the two.
     pub(crate) fn close(self) {
         let Boxes { a, b } = self;
         if let Some(a) = a {
@@ -26,29 +28,56 @@ impl Boxes {
         }
     }
 
-    pub(crate) fn opened(&mut self, name: BoxName) -> Result<&mut OpenBox, Flaw<'static>> {
-        let found = match name {
-            BoxName::A => self.a.as_mut(),
-            BoxName::B => self.b.as_mut(),
-        };
-        match found {
-            Some(opened) => Ok(opened),
-            None => Err(Flaw::NotOpen(name.letter())),
-        }
-    }
-
-    // Makes the call of a line.
+    // Makes the call of a line. Few calls need the heap or the line, so the two stay apart.
     pub(crate) fn call(
         &mut self,
         heap: Global,
         line: usize,
         command: &Command,
     ) -> Result<Outcome, Flaw<'static>> {
-        match command {
-            Command::Open(target, opening) => self.open(heap, *target, opening),
-            Command::EnterOther(target, counterparty) => self.enter_other(*target, *counterparty),
-            Command::Call(target, call) => self.opened(*target)?.call(heap, line, call),
+        let done = match command {
+            Command::Open { target, opening } => self.open(heap, *target, opening),
+            Command::EnterOther {
+                target,
+                counterparty,
+            } => self.enter_other(*target, *counterparty),
+            Command::Call { target, call } => self.call_open(heap, line, *target, call),
+        };
+        done.or_else(NotDone::answer)
+    }
+
+    // Does the same to each box that is open, a before b.
+    pub(crate) fn each_open<F: FnMut(BoxName, &mut OpenBox) -> io::Result<()>>(
+        &mut self,
+        mut act: F,
+    ) -> io::Result<()>
+        requires { F.IsAlwaysCallable act }
+    {
+        if let Some(a) = self.a.as_mut() {
+            act(BoxName::A, a)?;
         }
+        if let Some(b) = self.b.as_mut() {
+            act(BoxName::B, b)?;
+        }
+        Ok(())
+    }
+
+    fn slot(&mut self, name: BoxName) -> &mut Option<OpenBox> {
+        match name {
+            BoxName::A => &mut self.a,
+            BoxName::B => &mut self.b,
+        }
+    }
+
+    fn call_open(
+        &mut self,
+        heap: Global,
+        line: usize,
+        target: BoxName,
+        call: &BoxCall,
+    ) -> Result<Outcome, NotDone> {
+        let opened = self.slot(target).as_mut().ok_or(Flaw::NotOpen(target))?;
+        opened.call(heap, line, call)
     }
 
     fn open(
@@ -56,41 +85,22 @@ impl Boxes {
         heap: Global,
         target: BoxName,
         opening: &Opening,
-    ) -> Result<Outcome, Flaw<'static>> {
-        if self.opened(target).is_ok() {
-            return Err(Flaw::OpenAlready(target.letter()));
+    ) -> Result<Outcome, NotDone> {
+        let slot = self.slot(target);
+        if slot.is_some() {
+            return Err(Flaw::OpenAlready(target).into());
         }
-        match OpenBox::open(heap, opening)? {
-            Opened::Box(opened) => {
-                self.put(target, opened);
-                Ok(Outcome::Opened)
-            }
-            Opened::Refused(fault) => Ok(Outcome::Refused(fault.refusal())),
-        }
-    }
-
-    fn put(&mut self, target: BoxName, opened: OpenBox) {
-        let before = match target {
-            BoxName::A => self.a.replace(opened),
-            BoxName::B => self.b.replace(opened),
-        };
-        if let Some(before) = before {
+        // a box may not be overwritten: what stood in the slot is closed
+        if let Some(before) = slot.replace(OpenBox::open(heap, opening)?) {
             before.close();
         }
+        Ok(Outcome::Opened)
     }
 
     // Enters the slip that the other box keeps.
-    fn enter_other(
-        &mut self,
-        target: BoxName,
-        counterparty: usize,
-    ) -> Result<Outcome, Flaw<'static>> {
-        let Some(a) = self.a.as_mut() else {
-            return Err(Flaw::NotOpen("a"));
-        };
-        let Some(b) = self.b.as_mut() else {
-            return Err(Flaw::NotOpen("b"));
-        };
+    fn enter_other(&mut self, target: BoxName, counterparty: usize) -> Result<Outcome, NotDone> {
+        let a = self.a.as_mut().ok_or(Flaw::NotOpen(BoxName::A))?;
+        let b = self.b.as_mut().ok_or(Flaw::NotOpen(BoxName::B))?;
         match target {
             BoxName::A => a.enter_from(b, counterparty),
             BoxName::B => b.enter_from(a, counterparty),

@@ -10,24 +10,15 @@ use std::io;
 
 // Enters the slips that are still out, by box and counterparty, and reports on each box.
 pub(crate) fn close_day(rt: &HostRuntime, boxes: &mut Boxes) -> io::Result<()> {
-    for name in [BoxName::A, BoxName::B] {
-        if let Ok(opened) = boxes.opened(name) {
-            enter_rest(rt, name, opened)?;
-        }
-    }
-    for name in [BoxName::A, BoxName::B] {
-        if let Ok(opened) = boxes.opened(name) {
-            report_box(rt, name, opened)?;
-        }
-    }
-    Ok(())
+    boxes.each_open(|name, opened| enter_rest(rt, name, opened))?;
+    boxes.each_open(|name, opened| report_box(rt, name, opened))
 }
 
 fn enter_rest(rt: &HostRuntime, name: BoxName, opened: &mut OpenBox) -> io::Result<()> {
-    let letter = name.letter();
+    // by number, since entering borrows the whole box
     for counterparty in 0..opened.diary.pages.len() {
         match opened.enter(counterparty) {
-            Ok(outcome) => println!(rt; "end: enter {letter} {counterparty}: {outcome}")?,
+            Ok(outcome) => println!(rt; "end: enter {name} {counterparty}: {outcome}")?,
             Err(Flaw::NoMemory) => return Err(AllocError.into()),
             // no slip is kept for it
             Err(_) => {}
@@ -37,9 +28,8 @@ fn enter_rest(rt: &HostRuntime, name: BoxName, opened: &mut OpenBox) -> io::Resu
 }
 
 fn report_box(rt: &HostRuntime, name: BoxName, opened: &OpenBox) -> io::Result<()> {
-    let letter = name.letter();
     let count = opened.diary.pages.len();
-    println!(rt; "box {letter}, counterparties: {count}")?;
+    println!(rt; "box {name}, counterparties: {count}")?;
     for (counterparty, page) in opened.diary.pages.iter().enumerate() {
         let remaining = opened.remaining(counterparty);
         println!(rt; "  counterparty {counterparty}, {remaining}")?;
@@ -67,7 +57,7 @@ fn report_notes(rt: &HostRuntime, page: &Page) -> io::Result<()> {
     for note in page.notes.iter() {
         let line = note.line;
         let place = note.place;
-        let reply = note.reply.word();
+        let reply = note.reply;
         println!(rt; "    note of line {line}: place {place} is now {reply}")?;
     }
     Ok(())

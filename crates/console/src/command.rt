@@ -1,29 +1,44 @@
 // The calls of a script.
 use super::lists::ListField;
 use super::show::Quoted;
+use super::words::UnknownWord;
 use censors::builtin::Builtin;
 use histories::data::Change;
 use std::fmt;
 
 // The two boxes of a script.
-#[derive(Clone, Copy)]
+#[derive(Clone, Copy, PartialEq, Eq)]
 pub(crate) enum BoxName {
     A,
     B,
 }
 
 impl BoxName {
-    pub(crate) fn letter(self) -> &'static str {
-        match self {
-            BoxName::A => "a",
-            BoxName::B => "b",
-        }
-    }
-
     fn other(self) -> BoxName {
         match self {
             BoxName::A => BoxName::B,
             BoxName::B => BoxName::A,
+        }
+    }
+}
+
+impl fmt::Display for BoxName {
+    fn fmt<W: fmt::Write>(&self, f: &mut fmt::Formatter<W>) -> fmt::Result {
+        f.write_str(match self {
+            BoxName::A => "a",
+            BoxName::B => "b",
+        })
+    }
+}
+
+impl TryFrom<&[u8]> for BoxName {
+    type Error = UnknownWord;
+
+    fn try_from(word: &[u8]) -> Result<BoxName, UnknownWord> {
+        match word {
+            b"a" => Ok(BoxName::A),
+            b"b" => Ok(BoxName::B),
+            _ => Err(UnknownWord),
         }
     }
 }
@@ -52,37 +67,49 @@ pub(crate) struct Amendment {
     pub(crate) changes: Vec<Change>,
 }
 
-// A call that concerns one box, which has to be open.
+// A call that concerns one box, which has to be open. A number alone is a counterparty's.
 #[derive(Drop)]
 pub(crate) enum BoxCall {
     Enrol(Enrolment),
-    Judge(usize, Vec<u8>),
+    Judge { counterparty: usize, text: Vec<u8> },
     Read(usize),
     Enter(usize),
     Amend(Amendment),
-    Held(usize, usize),
+    Held { counterparty: usize, place: usize },
     Remaining(usize),
 }
 
 // What a line asks for, of the box that it names first.
 #[derive(Drop)]
 pub(crate) enum Command {
-    Open(BoxName, Opening),
+    Open {
+        target: BoxName,
+        opening: Opening,
+    },
     // to enter the slip that the other box keeps for the counterparty
-    EnterOther(BoxName, usize),
-    Call(BoxName, BoxCall),
+    EnterOther {
+        target: BoxName,
+        counterparty: usize,
+    },
+    Call {
+        target: BoxName,
+        call: BoxCall,
+    },
 }
 
 // The call in short: lists and priors are left out, and long texts are cut.
 impl fmt::Display for Command {
     fn fmt<W: fmt::Write>(&self, f: &mut fmt::Formatter<W>) -> fmt::Result {
         match self {
-            Command::Open(target, opening) => write_opening(f, *target, opening),
-            Command::EnterOther(target, counterparty) => {
-                write_front(f, "enter", *target, *counterparty)?;
-                write!(f, " from {}", target.other().letter())
+            Command::Open { target, opening } => write_opening(f, *target, opening),
+            Command::EnterOther {
+                target,
+                counterparty,
+            } => {
+                let other = target.other();
+                write!(f, "enter {target} {counterparty} from {other}")
             }
-            Command::Call(target, call) => write_call(f, *target, call),
+            Command::Call { target, call } => write_call(f, *target, call),
         }
     }
 }
@@ -92,12 +119,7 @@ fn write_opening<W: fmt::Write>(
     target: BoxName,
     opening: &Opening,
 ) -> fmt::Result {
-    let target = target.letter();
-    let censor = match opening.censor {
-        Builtin::Refusing => "refusing",
-        Builtin::Lying => "lying",
-        Builtin::Combined => "combined",
-    };
+    let censor = opening.censor;
     let number = opening.number;
     let sheet = opening.sheet;
     write!(f, "open {target} {censor} {number} {sheet}")
@@ -109,31 +131,20 @@ fn write_call<W: fmt::Write>(
     call: &BoxCall,
 ) -> fmt::Result {
     match call {
-        BoxCall::Enrol(_) => write!(f, "enrol {}", target.letter()),
-        BoxCall::Judge(counterparty, text) => {
-            write_front(f, "judge", target, *counterparty)?;
-            write!(f, " {}", Quoted::short(text.as_slice()))
+        BoxCall::Enrol(_) => write!(f, "enrol {target}"),
+        BoxCall::Judge { counterparty, text } => {
+            let text = Quoted::short(text.as_slice());
+            write!(f, "judge {target} {counterparty} {text}")
         }
-        BoxCall::Read(counterparty) => write_front(f, "read", target, *counterparty),
-        BoxCall::Enter(counterparty) => write_front(f, "enter", target, *counterparty),
+        BoxCall::Read(counterparty) => write!(f, "read {target} {counterparty}"),
+        BoxCall::Enter(counterparty) => write!(f, "enter {target} {counterparty}"),
         BoxCall::Amend(amendment) => write_amendment(f, target, amendment),
-        BoxCall::Held(counterparty, place) => {
-            write_front(f, "held", target, *counterparty)?;
-            write!(f, " {place}")
-        }
-        BoxCall::Remaining(counterparty) => write_front(f, "remaining", target, *counterparty),
+        BoxCall::Held {
+            counterparty,
+            place,
+        } => write!(f, "held {target} {counterparty} {place}"),
+        BoxCall::Remaining(counterparty) => write!(f, "remaining {target} {counterparty}"),
     }
-}
-
-// The call with its box and a number.
-fn write_front<W: fmt::Write>(
-    f: &mut fmt::Formatter<W>,
-    call: &str,
-    target: BoxName,
-    number: usize,
-) -> fmt::Result {
-    let target = target.letter();
-    write!(f, "{call} {target} {number}")
 }
 
 fn write_amendment<W: fmt::Write>(
@@ -141,15 +152,12 @@ fn write_amendment<W: fmt::Write>(
     target: BoxName,
     amendment: &Amendment,
 ) -> fmt::Result {
-    write_front(f, "amend", target, amendment.notes_len)?;
+    let notes_len = amendment.notes_len;
+    write!(f, "amend {target} {notes_len}")?;
     for change in amendment.changes.iter() {
-        write_change(f, *change)?;
+        let fact = change.fact;
+        let value = if change.value { "yes" } else { "no" };
+        write!(f, " {fact}={value}")?;
     }
     Ok(())
-}
-
-fn write_change<W: fmt::Write>(f: &mut fmt::Formatter<W>, change: Change) -> fmt::Result {
-    let fact = change.fact;
-    let value = if change.value { "yes" } else { "no" };
-    write!(f, " {fact}={value}")
 }

@@ -51,10 +51,10 @@ impl Diary {
 
     // The question that was judged is entered.
     pub(crate) fn enter(&mut self, counterparty: usize) -> Result<(), AllocError> {
-        if let Some(page) = self.pages.get_mut(counterparty) {
-            if let Some(text) = page.judged.take() {
-                page.entered.push(text)?;
-            }
+        if let Some(page) = self.pages.get_mut(counterparty)
+            && let Some(text) = page.judged.take()
+        {
+            page.entered.push(text)?;
         }
         Ok(())
     }

@@ -1,54 +1,40 @@
 // The fields of a line, taken from the left: words, and texts between quotes. Blanks may part them.
-ghost use Rattle.std.specs.Prelude.{◌≡◌, ◌<◌, ◌≤◌, true, length};
+ghost use Rattle.std.specs.Prelude.{◌≡◌, ◌<◌, ◌≤◌, length, true, IfOk, OnOk, OnSome};
 
 use super::flaws::Flaw;
 use super::numbers::decimal;
 use super::scan::{blanks_len, word_len};
 use super::texts::read_text;
-use super::words::Named;
 use std::alloc::Global;
 
-// What is left of a line, and its first flaw. From a flaw on nothing is left, and what is read counts for nothing.
+// What is left of a line, and where texts and lists that are read from it are kept.
+// An `Err` ends the reading of the line: nothing is read from it afterwards.
 #[derive(Drop)]
 pub(crate) struct Fields<'a> {
+    heap: Global,
     rest: &'a [u8],
-    flaw: Option<Flaw<'a>>,
 }
 
 impl<'a> Fields<'a> {
-    pub(crate) fn new(line: &'a [u8]) -> Fields<'a> {
-        Fields {
-            rest: line,
-            flaw: None,
-        }
+    pub(crate) fn new(heap: Global, line: &'a [u8]) -> Fields<'a> {
+        Fields { heap, rest: line }
     }
 
-    // Notes the flaw, unless there was one before.
-    pub(crate) fn fail(&mut self, flaw: Flaw<'a>)
-        ensures { length self.new.rest.now ≡ 0 }
-    {
-        if self.flaw.is_none() {
-            self.flaw = Some(flaw);
-        }
-        self.rest = &[];
+    pub(crate) fn heap(&self) -> Global {
+        self.heap
     }
 
     // Nothing but blanks may be left.
     pub(crate) fn finish(&mut self) -> Result<(), Flaw<'a>> {
-        self.skip_blanks();
-        if let Some(flaw) = self.flaw {
-            return Err(flaw);
+        match self.first() {
+            None => Ok(()),
+            Some(_) => Err(Flaw::AfterEnd(self.rest)),
         }
-        if !self.rest.is_empty() {
-            return Err(Flaw::AfterEnd(self.rest));
-        }
-        Ok(())
     }
 
     // Whether the line holds no call.
     pub(crate) fn is_comment(&mut self) -> bool {
-        self.skip_blanks();
-        self.rest.is_empty() || self.rest[0] == b'#'
+        matches!(self.first(), None | Some(b'#'))
     }
 
     // Whether the next field begins with the byte.
@@ -56,95 +42,88 @@ impl<'a> Fields<'a> {
         ensures left { length self.new.rest.now ≤ length self.old.rest.now }
         ensures more { result ≡ true → 0 < length self.new.rest.now }
     {
-        self.skip_blanks();
-        !self.rest.is_empty() && self.rest[0] == byte
+        self.first() == Some(byte)
     }
 
-    // Whether the next field begins with a digit.
-    pub(crate) fn next_is_digit(&mut self) -> bool
-        ensures left { length self.new.rest.now ≤ length self.old.rest.now }
-        ensures more { result ≡ true → 0 < length self.new.rest.now }
+    // The value that the next word stands for.
+    // `what` lives as long as the line: beside `'static`, a bound over the line's lifetime is not covered by a proof.
+    pub(crate) fn choice<T: TryFrom<&'a [u8]>>(&mut self, what: &'a str) -> Result<T, Flaw<'a>>
+    where
+        T::Error: Drop,
     {
-        self.skip_blanks();
-        !self.rest.is_empty() && matches!(self.rest[0], b'0'..=b'9')
-    }
-
-    // A longest run of bytes that are neither blanks nor quotes.
-    pub(crate) fn word(&mut self, what: &'static str) -> &'a [u8]
-        ensures { 0 < length self.old.rest.now → length self.new.rest.now < length self.old.rest.now }
-    {
-        self.skip_blanks();
-        let rest = self.rest;
-        let end = word_len(rest);
-        if end == 0 {
-            self.fail(Flaw::MissingField(what));
-        } else {
-            self.rest = &rest[end..];
-        }
-        &rest[0..end]
-    }
-
-    pub(crate) fn text(&mut self, heap: Global, what: &'static str) -> Vec<u8>
-        ensures { 0 < length self.old.rest.now → length self.new.rest.now < length self.old.rest.now }
-    {
-        if !self.next_is(b'"') {
-            self.fail(Flaw::MissingField(what));
-            return Vec::new(heap);
-        }
-        let rest = self.rest;
-        match read_text(heap, &rest[1..]) {
-            Ok(read) => {
-                self.rest = read.rest;
-                read.bytes
-            }
-            Err(flaw) => {
-                self.fail(flaw);
-                Vec::new(heap)
-            }
-        }
-    }
-
-    pub(crate) fn number(&mut self, what: &'static str, most: usize) -> usize
-        ensures { result ≤ most }
-    {
-        match decimal(self.word(what), most) {
-            Ok(number) => number,
-            Err(flaw) => {
-                self.fail(flaw);
-                0
-            }
-        }
+        let word = self.word(what)?;
+        // by way of an option: a closure over an associated type is not supported
+        T::try_from(word).ok().ok_or(Flaw::UnknownWord(word))
     }
 
     // The word that has to stand next.
-    pub(crate) fn expect(&mut self, expected: &'static str) {
-        let word = self.word(expected);
+    pub(crate) fn expect(&mut self, expected: &'a str) -> Result<(), Flaw<'a>> {
+        let word = self.word(expected)?;
         if word != expected.as_bytes() {
-            self.fail(Flaw::UnknownWord(word));
+            return Err(Flaw::UnknownWord(word));
         }
+        Ok(())
     }
 
-    // The value of the next word, which has to stand in the table.
-    pub(crate) fn choice<T: Copy>(
+    pub(crate) fn number(&mut self, what: &'a str, most: usize) -> Result<usize, Flaw<'a>>
+        ensures { IfOk result (λ n. n ≤ most) }
+    {
+        decimal(self.word(what)?, most)
+    }
+
+    pub(crate) fn text(&mut self, what: &'a str) -> Result<Vec<u8>, Flaw<'a>>
+        ensures { OnOk result (length self.new.rest.now < length self.old.rest.now) }
+    {
+        self.skip_blanks();
+        let rest = self
+            .rest
+            .strip_prefix(b"\"")
+            .ok_or(Flaw::MissingField(what))?;
+        let read = read_text(self.heap, rest)?;
+        self.rest = read.rest;
+        Ok(read.bytes)
+    }
+
+    // What the next words say, as long as they begin with a digit.
+    pub(crate) fn numbered<T: Drop, F: Fn(&[u8]) -> Result<T, Flaw<'_>>>(
         &mut self,
-        what: &'static str,
-        table: &[Named<T>],
-        otherwise: T,
-    ) -> T {
-        let word = self.word(what);
-        for named in table {
-            if named.word.as_bytes() == word {
-                return named.value;
-            }
+        what: &'a str,
+        read: F,
+    ) -> Result<Vec<T>, Flaw<'a>>
+        requires { F.IsAlwaysCallable read }
+    {
+        let mut values = Vec::new(self.heap);
+        while matches!(self.first(), Some(b'0'..=b'9')) {
+            values.push(read(self.word(what)?)?)?;
         }
-        self.fail(Flaw::UnknownWord(word));
-        otherwise
+        Ok(values)
+    }
+
+    // A longest run of bytes that are neither blanks nor quotes.
+    fn word(&mut self, what: &'a str) -> Result<&'a [u8], Flaw<'a>>
+        ensures { OnOk result (length self.new.rest.now < length self.old.rest.now) }
+    {
+        self.skip_blanks();
+        let (word, rest) = self.rest.split_at(word_len(self.rest));
+        if word.is_empty() {
+            return Err(Flaw::MissingField(what));
+        }
+        self.rest = rest;
+        Ok(word)
+    }
+
+    // The first byte of the next field, if the line goes on.
+    fn first(&mut self) -> Option<u8>
+        ensures left { length self.new.rest.now ≤ length self.old.rest.now }
+        ensures more { OnSome result (0 < length self.new.rest.now) }
+    {
+        self.skip_blanks();
+        self.rest.first().copied()
     }
 
     fn skip_blanks(&mut self)
         ensures { length self.new.rest.now ≤ length self.old.rest.now }
     {
-        let rest = self.rest;
-        self.rest = &rest[blanks_len(rest)..];
+        self.rest = &self.rest[blanks_len(self.rest)..];
     }
 }

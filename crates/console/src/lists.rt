@@ -5,14 +5,13 @@ use super::numbers::decimal;
 use super::scan::parted;
 use pieces::Pieces;
 use sentences::cuts::{Cut, CutList};
-use std::alloc::Global;
 
 // A list as a line gives it.
 #[derive(Drop)]
 pub(crate) enum ListField {
     Texts(Pieces),
     // a block, and pairs that need not fit it
-    Cuts(Vec<u8>, Vec<Cut>),
+    Cuts { block: Vec<u8>, cuts: Vec<Cut> },
 }
 
 impl ListField {
@@ -20,7 +19,7 @@ impl ListField {
     pub(crate) fn list(&self) -> Result<CutList<'_>, Flaw<'static>> {
         match self {
             ListField::Texts(pieces) => pieces.list().ok_or(Flaw::LongList),
-            ListField::Cuts(block, cuts) => Ok(CutList {
+            ListField::Cuts { block, cuts } => Ok(CutList {
                 block: block.as_slice(),
                 cuts: cuts.as_slice(),
             }),
@@ -29,47 +28,27 @@ impl ListField {
 }
 
 // Texts one after the other, or the word `block` with a text and pairs. The list may be empty.
-pub(crate) fn read_list(heap: Global, fields: &mut Fields) -> ListField {
+pub(crate) fn read_list<'a>(fields: &mut Fields<'a>) -> Result<ListField, Flaw<'a>> {
     if !fields.next_is(b'b') {
-        return ListField::Texts(read_texts(heap, fields));
+        return Ok(ListField::Texts(read_texts(fields)?));
     }
-    fields.expect("block");
-    let block = fields.text(heap, "the block");
-    ListField::Cuts(block, read_cuts(heap, fields))
+    fields.expect("block")?;
+    let block = fields.text("the block")?;
+    let cuts = fields.numbered("a pair", read_cut)?;
+    Ok(ListField::Cuts { block, cuts })
 }
 
-fn read_texts(heap: Global, fields: &mut Fields) -> Pieces {
-    let mut pieces = Pieces::new(heap);
+fn read_texts<'a>(fields: &mut Fields<'a>) -> Result<Pieces, Flaw<'a>> {
+    let mut pieces = Pieces::new(fields.heap());
     while fields.next_is(b'"') {
-        let text = fields.text(heap, "a text");
-        if pieces.add(text.as_slice()).is_err() {
-            fields.fail(Flaw::NoMemory);
-        }
+        pieces.add(fields.text("a text")?.as_slice())?;
     }
-    pieces
-}
-
-// Pairs, as long as the next field begins with a digit.
-fn read_cuts(heap: Global, fields: &mut Fields) -> Vec<Cut> {
-    let mut cuts = Vec::new(heap);
-    while fields.next_is_digit() {
-        match read_cut(fields.word("a pair")) {
-            Ok(cut) => {
-                if cuts.push(cut).is_err() {
-                    fields.fail(Flaw::NoMemory);
-                }
-            }
-            Err(flaw) => fields.fail(flaw),
-        }
-    }
-    cuts
+    Ok(pieces)
 }
 
 // An offset and a length with `+` between.
 fn read_cut(word: &[u8]) -> Result<Cut, Flaw<'_>> {
-    let Some((offset, len)) = parted(word, b'+') else {
-        return Err(Flaw::MissingField("the length of a pair"));
-    };
+    let (offset, len) = parted(word, b'+').ok_or(Flaw::MissingField("the length of a pair"))?;
     Ok(Cut {
         offset: decimal(offset, 65535)? as u16,
         len: decimal(len, 65535)? as u16,

@@ -1,9 +1,7 @@
 // Runs the calls of a script on two boxes, one call a line, and prints what each answers.
 #![tactic(auto)]
 
-use anyhow::anyhow;
-use std::io::Read;
-use std::{env, fs};
+use inputs::files::sources;
 
 mod boxes;
 mod closing;
@@ -11,7 +9,6 @@ mod command;
 mod diary;
 mod fields;
 mod flaws;
-mod lines;
 mod lists;
 mod numbers;
 mod open_box;
@@ -29,23 +26,9 @@ fn main(rt: HostRuntime) -> anyhow::Result<()> {
 
 // Each script that the arguments name, or standard input where they name none.
 fn run(rt: &HostRuntime) -> anyhow::Result<()> {
-    let mut args = env::args(rt)?;
-    let _program = args.next();
-    if args.len() == 0 {
-        let mut text = Vec::new(rt.alloc());
-        rt.stdin().read_to_end(&mut text)?;
-        script::run_script(rt, "standard input", text.as_slice())?;
-    }
-    for path in args {
-        let text = read_file(rt, path.as_str())?;
-        script::run_script(rt, path.as_str(), text.as_slice())?;
+    for source in sources(rt)? {
+        let text = source.read(rt)?;
+        script::run_script(rt, source.name(), text.as_slice())?;
     }
     Ok(())
-}
-
-fn read_file(rt: &HostRuntime, path: &str) -> anyhow::Result<Vec<u8>> {
-    match fs::read(rt, path) {
-        Ok(bytes) => Ok(bytes),
-        Err(error) => Err(anyhow!("{path}: {error}")),
-    }
 }

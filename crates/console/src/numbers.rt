@@ -5,6 +5,7 @@ ghost use Rattle.console.specs.Decimal.{value_of};
 use super::flaws::Flaw;
 
 // The number that the digits say, if it is not above the most.
+// Digit by digit: what comes first, a byte that is no digit or a number too large, is what is reported.
 pub(crate) fn decimal(digits: &[u8], most: usize) -> Result<usize, Flaw<'_>>
     ensures { IfOk result (λ n. (n ≡ value_of digits.now) × (n ≤ most)) }
 {
@@ -13,13 +14,10 @@ pub(crate) fn decimal(digits: &[u8], most: usize) -> Result<usize, Flaw<'_>>
     }
     let mut number = 0usize;
     for byte in digits {
-        if !matches!(*byte, b'0'..=b'9') {
+        if !byte.is_ascii_digit() {
             return Err(Flaw::NotNumber(digits));
         }
-        match appended(number, *byte - b'0', most) {
-            Some(longer) => number = longer,
-            None => return Err(Flaw::TooLarge(digits)),
-        }
+        number = appended(number, *byte - b'0', most).ok_or(Flaw::TooLarge(digits))?;
     }
     Ok(number)
 }
@@ -28,9 +26,8 @@ pub(crate) fn decimal(digits: &[u8], most: usize) -> Result<usize, Flaw<'_>>
 fn appended(number: usize, digit: u8, most: usize) -> Option<usize>
     ensures { MatchOption result (most < 10 * number + digit) (λ n. (n ≡ 10 * number + digit) × (n ≤ most)) }
 {
-    let longer = number.checked_mul(10)?.checked_add(digit as usize)?;
-    if longer > most {
-        return None;
-    }
-    Some(longer)
+    number
+        .checked_mul(10)?
+        .checked_add(digit as usize)
+        .filter(|longer| *longer <= most)
 }

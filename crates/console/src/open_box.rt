@@ -2,48 +2,33 @@
 use super::command::{Amendment, BoxCall, Enrolment, Opening};
 use super::diary::Diary;
 use super::flaws::Flaw;
-use super::outcome::Outcome;
+use super::outcome::{NotDone, Outcome};
 use censors::builtin::Builtin;
-use censors::question::Reply;
 use desks::Desk;
-use histories::data::{BoxFault, Note};
+use histories::data::BLANK_NOTE;
 use querybox::query_box::QueryBox;
 use std::alloc::Global;
-
-const BLANK_NOTE: Note = Note {
-    counterparty: 0,
-    place: 0,
-    reply: Reply::Mum,
-};
 
 pub(crate) struct OpenBox {
     desk: Desk<Builtin>,
     pub(crate) diary: Diary,
 }
 
-// A box that was opened, or what it was refused with.
-pub(crate) enum Opened {
-    Box(OpenBox),
-    Refused(BoxFault),
-}
-
 impl OpenBox {
-    pub(crate) fn open(heap: Global, opening: &Opening) -> Result<Opened, Flaw<'static>> {
+    pub(crate) fn open(heap: Global, opening: &Opening) -> Result<OpenBox, NotDone> {
         let names = opening.names.list()?;
         let rules = opening.rules.list()?;
-        match QueryBox::open(
+        let query_box = QueryBox::open(
             opening.censor,
             opening.number,
             &names,
             &rules,
             opening.sheet,
-        ) {
-            Ok(query_box) => Ok(Opened::Box(OpenBox {
-                desk: Desk::new(heap, query_box)?,
-                diary: Diary::new(heap),
-            })),
-            Err(fault) => Ok(Opened::Refused(fault)),
-        }
+        )?;
+        Ok(OpenBox {
+            desk: Desk::new(heap, query_box)?,
+            diary: Diary::new(heap),
+        })
     }
 
     // Enters what is still out, and lets the box go.
@@ -58,30 +43,29 @@ impl OpenBox {
         heap: Global,
         line: usize,
         call: &BoxCall,
-    ) -> Result<Outcome, Flaw<'static>> {
+    ) -> Result<Outcome, NotDone> {
         match call {
             BoxCall::Enrol(enrolment) => self.enrol(heap, enrolment),
-            BoxCall::Judge(counterparty, text) => self.judge(heap, *counterparty, text.as_slice()),
-            BoxCall::Read(counterparty) => self.read(*counterparty),
-            BoxCall::Enter(counterparty) => self.enter(*counterparty),
+            BoxCall::Judge { counterparty, text } => {
+                self.judge(heap, *counterparty, text.as_slice())
+            }
+            BoxCall::Read(counterparty) => Ok(self.read(*counterparty)?),
+            BoxCall::Enter(counterparty) => Ok(self.enter(*counterparty)?),
             BoxCall::Amend(amendment) => self.amend(heap, line, amendment),
-            BoxCall::Held(counterparty, place) => Ok(self.held(*counterparty, *place)),
+            BoxCall::Held {
+                counterparty,
+                place,
+            } => Ok(self.held(*counterparty, *place)),
             BoxCall::Remaining(counterparty) => Ok(self.remaining(*counterparty)),
         }
     }
 
-    fn enrol(&mut self, heap: Global, enrolment: &Enrolment) -> Result<Outcome, Flaw<'static>> {
-        let prior = match &enrolment.prior {
-            Some(prior) => Some(prior.as_slice()),
-            None => None,
-        };
-        match self.desk.enrol(prior, &enrolment.secrets.list()?) {
-            Ok(counterparty) => {
-                self.diary.enrol(heap)?;
-                Ok(Outcome::Enrolled(counterparty))
-            }
-            Err(fault) => Ok(Outcome::Refused(fault.refusal())),
-        }
+    fn enrol(&mut self, heap: Global, enrolment: &Enrolment) -> Result<Outcome, NotDone> {
+        let prior = enrolment.prior.as_ref().map(|prior| prior.as_slice());
+        let secrets = enrolment.secrets.list()?;
+        let counterparty = self.desk.enrol(prior, &secrets)?;
+        self.diary.enrol(heap)?;
+        Ok(Outcome::Enrolled(counterparty))
     }
 
     fn judge(
@@ -89,32 +73,22 @@ impl OpenBox {
         heap: Global,
         counterparty: usize,
         text: &[u8],
-    ) -> Result<Outcome, Flaw<'static>> {
+    ) -> Result<Outcome, NotDone> {
         let kept = Vec::from_slice(heap, text)?;
-        match self.desk.judge(counterparty, text) {
-            Ok(face) => {
-                self.diary.judge(counterparty, kept);
-                Ok(Outcome::Slip(face))
-            }
-            Err(fault) => Ok(Outcome::Refused(fault.refusal())),
-        }
+        let face = self.desk.judge(counterparty, text)?;
+        self.diary.judge(counterparty, kept);
+        Ok(Outcome::Slip(face))
     }
 
     fn read(&mut self, counterparty: usize) -> Result<Outcome, Flaw<'static>> {
-        match self.desk.read(counterparty) {
-            Some(face) => Ok(Outcome::Slip(face)),
-            None => Err(Flaw::NoSlip),
-        }
+        let face = self.desk.read(counterparty).ok_or(Flaw::NoSlip)?;
+        Ok(Outcome::Slip(face))
     }
 
     pub(crate) fn enter(&mut self, counterparty: usize) -> Result<Outcome, Flaw<'static>> {
-        match self.desk.enter(counterparty) {
-            Some(reply) => {
-                self.diary.enter(counterparty)?;
-                Ok(Outcome::Replied(reply))
-            }
-            None => Err(Flaw::NoSlip),
-        }
+        let reply = self.desk.enter(counterparty).ok_or(Flaw::NoSlip)?;
+        self.diary.enter(counterparty)?;
+        Ok(Outcome::Replied(reply))
     }
 
     // Enters the slip that the other box handed out.
@@ -122,15 +96,13 @@ impl OpenBox {
         &mut self,
         other: &mut OpenBox,
         counterparty: usize,
-    ) -> Result<Outcome, Flaw<'static>> {
-        match self.desk.enter_from(&mut other.desk, counterparty) {
-            Some(Ok(reply)) => {
-                self.diary.enter(counterparty)?;
-                Ok(Outcome::Replied(reply))
-            }
-            Some(Err(refusal)) => Ok(Outcome::Refused(refusal)),
-            None => Err(Flaw::NoSlip),
-        }
+    ) -> Result<Outcome, NotDone> {
+        let reply = self
+            .desk
+            .enter_from(&mut other.desk, counterparty)
+            .ok_or(Flaw::NoSlip)??;
+        self.diary.enter(counterparty)?;
+        Ok(Outcome::Replied(reply))
     }
 
     fn amend(
@@ -138,15 +110,11 @@ impl OpenBox {
         heap: Global,
         line: usize,
         amendment: &Amendment,
-    ) -> Result<Outcome, Flaw<'static>> {
+    ) -> Result<Outcome, NotDone> {
         let mut notes = vec![in heap; BLANK_NOTE; amendment.notes_len]?;
-        let count = match self
+        let count = self
             .desk
-            .amend(amendment.changes.as_slice(), notes.as_mut_slice())
-        {
-            Ok(count) => count,
-            Err(fault) => return Ok(Outcome::Refused(fault.refusal())),
-        };
+            .amend(amendment.changes.as_slice(), notes.as_mut_slice())?;
         for note in notes.iter().take(count) {
             self.diary.send(line, note)?;
         }
@@ -154,16 +122,14 @@ impl OpenBox {
     }
 
     pub(crate) fn held(&self, counterparty: usize, place: usize) -> Outcome {
-        match self.desk.held(counterparty, place) {
-            Ok(reply) => Outcome::Held(reply),
-            Err(fault) => Outcome::Refused(fault.refusal()),
-        }
+        self.desk
+            .held(counterparty, place)
+            .map_or_else(Outcome::from, Outcome::Held)
     }
 
     pub(crate) fn remaining(&self, counterparty: usize) -> Outcome {
-        match self.desk.remaining(counterparty) {
-            Ok(count) => Outcome::Remaining(count),
-            Err(fault) => Outcome::Refused(fault.refusal()),
-        }
+        self.desk
+            .remaining(counterparty)
+            .map_or_else(Outcome::from, Outcome::Remaining)
     }
 }

@@ -1,7 +1,10 @@
 // What a call answers, and how it is printed.
+use super::flaws::Flaw;
 use censors::question::Reply;
-use histories::refusals::{About, BoxRefusal, BoxReturned, SlipFace};
+use histories::data::BoxFault;
+use histories::refusals::{BoxRefusal, BoxReturned, SlipFace};
 use sentences::faults::Returned;
+use std::alloc::AllocError;
 use std::fmt;
 
 #[derive(Clone, Copy)]
@@ -19,33 +22,67 @@ pub(crate) enum Outcome {
     Refused(BoxRefusal),
 }
 
-impl fmt::Display for Outcome {
-    fn fmt<W: fmt::Write>(&self, f: &mut fmt::Formatter<W>) -> fmt::Result {
-        match *self {
-            Outcome::Opened => f.write_str("opened"),
-            Outcome::Enrolled(counterparty) => write_number(f, "counterparty ", counterparty),
-            Outcome::Slip(face) => write_face(f, face),
-            Outcome::Replied(reply) => write_word(f, "reply ", reply.word()),
-            Outcome::Amended(count) => write_number(f, "amended, notes: ", count),
-            Outcome::Held(Some(reply)) => write_word(f, "holds ", reply.word()),
-            Outcome::Held(None) => f.write_str("nothing entered there"),
-            Outcome::Remaining(count) => write_number(f, "sheets remaining: ", count as usize),
-            Outcome::Refused(refusal) => write_refusal(f, &refusal),
+impl From<BoxFault> for Outcome {
+    fn from(fault: BoxFault) -> Outcome {
+        Outcome::Refused(fault.refusal())
+    }
+}
+
+// Why a call is not carried out: the box refuses it, or it cannot be made.
+#[derive(Clone, Copy)]
+pub(crate) enum NotDone {
+    Refused(BoxRefusal),
+    Flawed(Flaw<'static>),
+}
+
+impl NotDone {
+    // A refusal is an answer too.
+    pub(crate) fn answer(self) -> Result<Outcome, Flaw<'static>> {
+        match self {
+            NotDone::Refused(refusal) => Ok(Outcome::Refused(refusal)),
+            NotDone::Flawed(flaw) => Err(flaw),
         }
     }
 }
 
-fn write_number<W: fmt::Write>(
-    f: &mut fmt::Formatter<W>,
-    label: &str,
-    number: usize,
-) -> fmt::Result {
-    write!(f, "{label}{number}")
+impl From<BoxFault> for NotDone {
+    fn from(fault: BoxFault) -> NotDone {
+        NotDone::Refused(fault.refusal())
+    }
 }
 
-fn write_word<W: fmt::Write>(f: &mut fmt::Formatter<W>, label: &str, word: &str) -> fmt::Result {
-    f.write_str(label)?;
-    f.write_str(word)
+impl From<BoxRefusal> for NotDone {
+    fn from(refusal: BoxRefusal) -> NotDone {
+        NotDone::Refused(refusal)
+    }
+}
+
+impl From<Flaw<'static>> for NotDone {
+    fn from(flaw: Flaw<'static>) -> NotDone {
+        NotDone::Flawed(flaw)
+    }
+}
+
+impl From<AllocError> for NotDone {
+    fn from(error: AllocError) -> NotDone {
+        NotDone::Flawed(error.into())
+    }
+}
+
+impl fmt::Display for Outcome {
+    fn fmt<W: fmt::Write>(&self, f: &mut fmt::Formatter<W>) -> fmt::Result {
+        match *self {
+            Outcome::Opened => f.write_str("opened"),
+            Outcome::Enrolled(counterparty) => write!(f, "counterparty {counterparty}"),
+            Outcome::Slip(face) => write_face(f, face),
+            Outcome::Replied(reply) => write!(f, "reply {reply}"),
+            Outcome::Amended(count) => write!(f, "amended, notes: {count}"),
+            Outcome::Held(Some(reply)) => write!(f, "holds {reply}"),
+            Outcome::Held(None) => f.write_str("nothing entered there"),
+            Outcome::Remaining(count) => write!(f, "sheets remaining: {count}"),
+            Outcome::Refused(refusal) => write_refusal(f, refusal),
+        }
+    }
 }
 
 fn write_face<W: fmt::Write>(f: &mut fmt::Formatter<W>, face: SlipFace) -> fmt::Result {
@@ -54,13 +91,14 @@ fn write_face<W: fmt::Write>(f: &mut fmt::Formatter<W>, face: SlipFace) -> fmt::
     write!(f, "slip of counterparty {counterparty}, place {place}")
 }
 
-fn write_refusal<W: fmt::Write>(f: &mut fmt::Formatter<W>, refusal: &BoxRefusal) -> fmt::Result {
-    write_number(f, "refusal ", refusal.number as usize)?;
+fn write_refusal<W: fmt::Write>(f: &mut fmt::Formatter<W>, refusal: BoxRefusal) -> fmt::Result {
+    let number = refusal.number;
+    write!(f, "refusal {number}")?;
     if let Some(about) = refusal.about {
-        write_word(f, ", about the ", about_word(about))?;
+        write!(f, ", about the {about}")?;
     }
     if let Some(item) = refusal.item {
-        write_number(f, ", item ", item)?;
+        write!(f, ", item {item}")?;
     }
     f.write_str(", returns ")?;
     write_returned(f, refusal.returned)
@@ -69,30 +107,19 @@ fn write_refusal<W: fmt::Write>(f: &mut fmt::Formatter<W>, refusal: &BoxRefusal)
 fn write_returned<W: fmt::Write>(f: &mut fmt::Formatter<W>, returned: BoxReturned) -> fmt::Result {
     match returned {
         BoxReturned::Part(part) => write_part(f, part),
-        BoxReturned::Sheet(sheet) => write_number(f, "sheet ", sheet as usize),
-        BoxReturned::Counterparty(number) => write_number(f, "counterparty ", number),
-        BoxReturned::Limit(limit) => write_number(f, "limit ", limit),
+        BoxReturned::Sheet(sheet) => write!(f, "sheet {sheet}"),
+        BoxReturned::Counterparty(number) => write!(f, "counterparty {number}"),
+        BoxReturned::Limit(limit) => write!(f, "limit {limit}"),
         BoxReturned::Slip(face) => write_face(f, face),
         BoxReturned::Nothing => f.write_str("nothing"),
     }
 }
 
-// What a refusal of a text or a list returns.
+// What a refusal of a text or a list returns. The report writes a kind in other words, so the two share no Display.
 fn write_part<W: fmt::Write>(f: &mut fmt::Formatter<W>, part: Returned) -> fmt::Result {
     match part {
-        Returned::Place(place) => write_number(f, "place ", place),
-        Returned::Index(index) => write_number(f, "index ", index),
-        Returned::Kind(kind) => write_word(f, "kind ", kind.word()),
-    }
-}
-
-fn about_word(about: About) -> &'static str {
-    match about {
-        About::Names => "names",
-        About::HouseRules => "house rules",
-        About::Prior => "prior",
-        About::Secrets => "secrets",
-        About::Question => "question",
-        About::Amendment => "amendment",
+        Returned::Place(place) => write!(f, "place {place}"),
+        Returned::Index(index) => write!(f, "index {index}"),
+        Returned::Kind(kind) => write!(f, "kind {kind}"),
     }
 }

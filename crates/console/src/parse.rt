@@ -5,128 +5,119 @@ use super::flaws::Flaw;
 use super::lists::read_list;
 use super::numbers::decimal;
 use super::scan::parted;
-use super::words::{BOXES, CALLS, CENSORS, CallWord};
-use censors::builtin::Builtin;
+use super::words::CallWord;
 use histories::data::Change;
-use std::alloc::Global;
 
 // The call of a line that holds one.
-pub(crate) fn parse_line(heap: Global, line: &[u8]) -> Result<Command, Flaw<'_>> {
-    let mut fields = Fields::new(line);
-    let command = read_command(heap, &mut fields);
-    match fields.finish() {
-        Ok(()) => Ok(command),
-        Err(flaw) => Err(flaw),
-    }
+pub(crate) fn read_line<'a>(fields: &mut Fields<'a>) -> Result<Command, Flaw<'a>> {
+    let command = read_command(fields)?;
+    fields.finish()?;
+    Ok(command)
 }
 
-fn read_command(heap: Global, fields: &mut Fields) -> Command {
-    let word = fields.choice("the call", &CALLS, CallWord::Open);
-    let target = read_box(fields);
-    match word {
-        CallWord::Open => Command::Open(target, read_opening(heap, fields)),
-        CallWord::Enter => read_entry(target, fields),
-        CallWord::Enrol => Command::Call(target, BoxCall::Enrol(read_enrolment(heap, fields))),
-        CallWord::Judge => {
-            let counterparty = read_counterparty(fields);
-            let text = fields.text(heap, "the text");
-            Command::Call(target, BoxCall::Judge(counterparty, text))
+fn read_command<'a>(fields: &mut Fields<'a>) -> Result<Command, Flaw<'a>> {
+    let word = fields.choice("the call")?;
+    let target = read_box(fields)?;
+    let call = match word {
+        CallWord::Open => {
+            let opening = read_opening(fields)?;
+            return Ok(Command::Open { target, opening });
         }
-        CallWord::Read => Command::Call(target, BoxCall::Read(read_counterparty(fields))),
-        CallWord::Amend => Command::Call(target, BoxCall::Amend(read_amendment(heap, fields))),
-        CallWord::Held => {
-            let counterparty = read_counterparty(fields);
-            let place = fields.number("the place", usize::MAX);
-            Command::Call(target, BoxCall::Held(counterparty, place))
-        }
-        CallWord::Remaining => Command::Call(target, BoxCall::Remaining(read_counterparty(fields))),
-    }
+        CallWord::Enter => return read_entry(target, fields),
+        CallWord::Enrol => BoxCall::Enrol(read_enrolment(fields)?),
+        CallWord::Judge => BoxCall::Judge {
+            counterparty: read_counterparty(fields)?,
+            text: fields.text("the text")?,
+        },
+        CallWord::Read => BoxCall::Read(read_counterparty(fields)?),
+        CallWord::Amend => BoxCall::Amend(read_amendment(fields)?),
+        CallWord::Held => BoxCall::Held {
+            counterparty: read_counterparty(fields)?,
+            place: fields.number("the place", usize::MAX)?,
+        },
+        CallWord::Remaining => BoxCall::Remaining(read_counterparty(fields)?),
+    };
+    Ok(Command::Call { target, call })
 }
 
-fn read_box(fields: &mut Fields) -> BoxName {
-    fields.choice("the box", &BOXES, BoxName::A)
+fn read_box<'a>(fields: &mut Fields<'a>) -> Result<BoxName, Flaw<'a>> {
+    fields.choice("the box")
 }
 
-fn read_counterparty(fields: &mut Fields) -> usize {
+fn read_counterparty<'a>(fields: &mut Fields<'a>) -> Result<usize, Flaw<'a>> {
     fields.number("the counterparty", usize::MAX)
 }
 
-fn read_opening(heap: Global, fields: &mut Fields) -> Opening {
-    let censor = fields.choice("the censor", &CENSORS, Builtin::Refusing);
-    let number = fields.number("the box number", 255) as u8;
-    let sheet = fields.number("the sheet", 65535) as u16;
-    fields.expect("names");
-    let names = read_list(heap, fields);
-    fields.expect("rules");
-    let rules = read_list(heap, fields);
-    Opening {
+fn read_opening<'a>(fields: &mut Fields<'a>) -> Result<Opening, Flaw<'a>> {
+    let censor = fields.choice("the censor")?;
+    let number = fields.number("the box number", 255)? as u8;
+    let sheet = fields.number("the sheet", 65535)? as u16;
+    fields.expect("names")?;
+    let names = read_list(fields)?;
+    fields.expect("rules")?;
+    let rules = read_list(fields)?;
+    Ok(Opening {
         censor,
         number,
         sheet,
         names,
         rules,
-    }
+    })
 }
 
-fn read_enrolment(heap: Global, fields: &mut Fields) -> Enrolment {
-    let prior = read_prior(heap, fields);
-    fields.expect("secrets");
-    Enrolment {
-        prior,
-        secrets: read_list(heap, fields),
-    }
+fn read_enrolment<'a>(fields: &mut Fields<'a>) -> Result<Enrolment, Flaw<'a>> {
+    let prior = read_prior(fields)?;
+    fields.expect("secrets")?;
+    let secrets = read_list(fields)?;
+    Ok(Enrolment { prior, secrets })
 }
 
-fn read_prior(heap: Global, fields: &mut Fields) -> Option<Vec<u8>> {
+fn read_prior<'a>(fields: &mut Fields<'a>) -> Result<Option<Vec<u8>>, Flaw<'a>> {
     if !fields.next_is(b'p') {
-        return None;
+        return Ok(None);
     }
-    fields.expect("prior");
-    Some(fields.text(heap, "the prior"))
+    fields.expect("prior")?;
+    Ok(Some(fields.text("the prior")?))
 }
 
 // The slip comes from the box that it is entered in, unless the line names the other.
-fn read_entry(target: BoxName, fields: &mut Fields) -> Command {
-    let counterparty = read_counterparty(fields);
-    if !fields.next_is(b'f') {
-        return Command::Call(target, BoxCall::Enter(counterparty));
+fn read_entry<'a>(target: BoxName, fields: &mut Fields<'a>) -> Result<Command, Flaw<'a>> {
+    let counterparty = read_counterparty(fields)?;
+    if read_source(fields)?.unwrap_or(target) == target {
+        return Ok(Command::Call {
+            target,
+            call: BoxCall::Enter(counterparty),
+        });
     }
-    fields.expect("from");
-    match (target, read_box(fields)) {
-        (BoxName::A, BoxName::B) | (BoxName::B, BoxName::A) => {
-            Command::EnterOther(target, counterparty)
-        }
-        _ => Command::Call(target, BoxCall::Enter(counterparty)),
-    }
+    Ok(Command::EnterOther {
+        target,
+        counterparty,
+    })
 }
 
-fn read_amendment(heap: Global, fields: &mut Fields) -> Amendment {
-    let notes_len = fields.number("the length of the list for notes", 65535);
-    let mut changes = Vec::new(heap);
-    while fields.next_is_digit() {
-        match read_change(fields.word("a change")) {
-            Ok(change) => {
-                if changes.push(change).is_err() {
-                    fields.fail(Flaw::NoMemory);
-                }
-            }
-            Err(flaw) => fields.fail(flaw),
-        }
+// The box that the slip comes from, where the line names it.
+fn read_source<'a>(fields: &mut Fields<'a>) -> Result<Option<BoxName>, Flaw<'a>> {
+    if !fields.next_is(b'f') {
+        return Ok(None);
     }
-    Amendment { notes_len, changes }
+    fields.expect("from")?;
+    Ok(Some(read_box(fields)?))
+}
+
+fn read_amendment<'a>(fields: &mut Fields<'a>) -> Result<Amendment, Flaw<'a>> {
+    Ok(Amendment {
+        notes_len: fields.number("the length of the list for notes", 65535)?,
+        changes: fields.numbered("a change", read_change)?,
+    })
 }
 
 // A fact and its new value with `=` between.
 fn read_change(word: &[u8]) -> Result<Change, Flaw<'_>> {
-    let Some((fact, value)) = parted(word, b'=') else {
-        return Err(Flaw::MissingField("the value of a change"));
-    };
-    let value = if value == b"yes".as_slice() {
-        true
-    } else if value == b"no".as_slice() {
-        false
-    } else {
-        return Err(Flaw::UnknownWord(word));
+    let (fact, value) = parted(word, b'=').ok_or(Flaw::MissingField("the value of a change"))?;
+    let value = match value {
+        b"yes" => true,
+        b"no" => false,
+        _ => return Err(Flaw::UnknownWord(word)),
     };
     Ok(Change {
         fact: decimal(fact, usize::MAX)?,

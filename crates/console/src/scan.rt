@@ -9,32 +9,22 @@ fn is_blank(byte: u8) -> bool {
 pub(crate) fn blanks_len(text: &[u8]) -> usize
     ensures within { result ≤ length text.now }
 {
-    for (place, byte) in text.iter().enumerate() {
-        if !is_blank(*byte) {
-            return place;
-        }
-    }
-    text.len()
+    text.iter()
+        .position(|byte| !is_blank(*byte))
+        .unwrap_or(text.len())
 }
 
 // How long the word in front is.
 pub(crate) fn word_len(text: &[u8]) -> usize
     ensures within { result ≤ length text.now }
 {
-    for (place, byte) in text.iter().enumerate() {
-        if is_blank(*byte) || *byte == b'"' {
-            return place;
-        }
-    }
-    text.len()
+    text.iter()
+        .position(|byte| is_blank(*byte) || *byte == b'"')
+        .unwrap_or(text.len())
 }
 
 // The parts of a word before and after the first such byte.
 pub(crate) fn parted(word: &[u8], between: u8) -> Option<(&[u8], &[u8])> {
-    for (place, byte) in word.iter().enumerate() {
-        if *byte == between {
-            return Some((&word[0..place], &word[place + 1..]));
-        }
-    }
-    None
+    let place = word.iter().position(|byte| *byte == between)?;
+    Some((&word[..place], &word[place + 1..]))
 }

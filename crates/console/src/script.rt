@@ -4,8 +4,8 @@ use super::closing::close_day;
 use super::command::Command;
 use super::fields::Fields;
 use super::flaws::Flaw;
-use super::lines::Lines;
-use super::parse::parse_line;
+use super::parse::read_line;
+use inputs::lines::{Split, without_return};
 use std::alloc::AllocError;
 use std::io;
 
@@ -19,17 +19,18 @@ pub(crate) fn run_script(rt: &HostRuntime, name: &str, script: &[u8]) -> io::Res
 }
 
 fn run_lines(rt: &HostRuntime, boxes: &mut Boxes, script: &[u8]) -> io::Result<()> {
-    for (index, line) in Lines::new(script).enumerate() {
-        run_line(rt, boxes, index.saturating_add(1), line)?;
+    for (index, line) in Split::new(script, b'\n').enumerate() {
+        run_line(rt, boxes, index.saturating_add(1), without_return(line))?;
     }
     close_day(rt, boxes)
 }
 
 fn run_line(rt: &HostRuntime, boxes: &mut Boxes, number: usize, line: &[u8]) -> io::Result<()> {
-    if Fields::new(line).is_comment() {
+    let mut fields = Fields::new(rt.alloc(), line);
+    if fields.is_comment() {
         return Ok(());
     }
-    match parse_line(rt.alloc(), line) {
+    match read_line(&mut fields) {
         Ok(command) => run_command(rt, boxes, number, &command),
         Err(flaw) => skip(rt, number, flaw),
     }

@@ -31,7 +31,7 @@ impl fmt::Display for Quoted<'_> {
         if len <= self.most {
             return write_quoted(f, self.text);
         }
-        write_quoted(f, &self.text[0..self.most])?;
+        write_quoted(f, &self.text[..self.most])?;
         write!(f, "... ({len} bytes)")
     }
 }

@@ -1,5 +1,5 @@
 // Texts between quotes. `\"`, `\\` and `\x` with two digits stand for one byte each.
-ghost use Rattle.std.specs.Prelude.{◌<◌, length, IfOk};
+ghost use Rattle.std.specs.Prelude.{◌<◌, length, IfOk, OnOk};
 
 use super::flaws::Flaw;
 use std::alloc::Global;
@@ -11,82 +11,36 @@ pub(crate) struct ReadText<'a> {
     pub(crate) rest: &'a [u8],
 }
 
-// What the next byte of a text is.
-#[derive(Clone, Copy)]
-enum Stage {
-    Plain,
-    AfterBackslash,
-    FirstDigit,
-    // with the value of the first digit
-    SecondDigit(u8),
-}
-
-// A text of which the front is read.
-#[derive(Drop)]
-struct Reading {
-    bytes: Vec<u8>,
-    stage: Stage,
-}
-
 // Reads from behind the opening quote.
 pub(crate) fn read_text(heap: Global, text: &[u8]) -> Result<ReadText<'_>, Flaw<'static>>
     ensures { IfOk result (λ t. length t.rest.now < length text.now) }
 {
-    let mut reading = Reading {
-        bytes: Vec::new(heap),
-        stage: Stage::Plain,
-    };
-    for (place, byte) in text.iter().enumerate() {
-        if reading.ends_at(*byte)? {
-            return Ok(ReadText {
-                bytes: reading.bytes,
-                rest: &text[place + 1..],
-            });
+    let mut bytes = Vec::new(heap);
+    let mut rest = text;
+    loop {
+        match next_byte(&mut rest)? {
+            b'"' => return Ok(ReadText { bytes, rest }),
+            b'\\' => bytes.push(escaped(&mut rest)?)?,
+            byte => bytes.push(byte)?,
         }
     }
-    Err(Flaw::UnfinishedText)
 }
 
-impl Reading {
-    // Whether the byte is the closing quote; any other byte is taken in.
-    fn ends_at(&mut self, byte: u8) -> Result<bool, Flaw<'static>> {
-        match self.stage {
-            Stage::Plain => {
-                if byte == b'"' {
-                    return Ok(true);
-                }
-                self.plain(byte)?;
-            }
-            Stage::AfterBackslash => self.escaped(byte)?,
-            Stage::FirstDigit => self.stage = Stage::SecondDigit(hex_digit(byte)?),
-            Stage::SecondDigit(first) => {
-                self.bytes.push(first << 4 | hex_digit(byte)?)?;
-                self.stage = Stage::Plain;
-            }
-        }
-        Ok(false)
+// The byte that an escape stands for, read from behind its backslash.
+fn escaped(rest: &mut &[u8]) -> Result<u8, Flaw<'static>>
+    ensures { OnOk result (length rest.new.now < length rest.old.now) }
+{
+    match next_byte(rest)? {
+        b'x' => Ok(hex_digit(next_byte(rest)?)? << 4 | hex_digit(next_byte(rest)?)?),
+        byte @ (b'"' | b'\\') => Ok(byte),
+        _ => Err(Flaw::UnknownEscape),
     }
+}
 
-    fn plain(&mut self, byte: u8) -> Result<(), Flaw<'static>> {
-        if byte == b'\\' {
-            self.stage = Stage::AfterBackslash;
-        } else {
-            self.bytes.push(byte)?;
-        }
-        Ok(())
-    }
-
-    fn escaped(&mut self, byte: u8) -> Result<(), Flaw<'static>> {
-        match byte {
-            b'x' => self.stage = Stage::FirstDigit,
-            b'"' | b'\\' => {
-                self.bytes.push(byte)?;
-                self.stage = Stage::Plain;
-            }
-            _ => return Err(Flaw::UnknownEscape),
-        }
-        Ok(())
-    }
+fn next_byte(rest: &mut &[u8]) -> Result<u8, Flaw<'static>>
+    ensures { OnOk result (length rest.new.now < length rest.old.now) }
+{
+    rest.split_off_first().copied().ok_or(Flaw::UnfinishedText)
 }
 
 fn hex_digit(byte: u8) -> Result<u8, Flaw<'static>> {

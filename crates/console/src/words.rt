@@ -1,13 +1,8 @@
-// The words of a script that stand for a value.
-use super::command::BoxName;
-use censors::builtin::Builtin;
+// The words that a line begins with.
 
-// A value that a script gives by a word.
+// A word that stands for nothing where it was read.
 #[derive(Clone, Copy)]
-pub(crate) struct Named<T> {
-    pub(crate) word: &'static str,
-    pub(crate) value: T,
-}
+pub(crate) struct UnknownWord;
 
 #[derive(Clone, Copy)]
 pub(crate) enum CallWord {
@@ -21,63 +16,20 @@ pub(crate) enum CallWord {
     Remaining,
 }
 
-pub(crate) const CALLS: [Named<CallWord>; 8] = [
-    Named {
-        word: "open",
-        value: CallWord::Open,
-    },
-    Named {
-        word: "enrol",
-        value: CallWord::Enrol,
-    },
-    Named {
-        word: "judge",
-        value: CallWord::Judge,
-    },
-    Named {
-        word: "read",
-        value: CallWord::Read,
-    },
-    Named {
-        word: "enter",
-        value: CallWord::Enter,
-    },
-    Named {
-        word: "amend",
-        value: CallWord::Amend,
-    },
-    Named {
-        word: "held",
-        value: CallWord::Held,
-    },
-    Named {
-        word: "remaining",
-        value: CallWord::Remaining,
-    },
-];
+impl TryFrom<&[u8]> for CallWord {
+    type Error = UnknownWord;
 
-pub(crate) const BOXES: [Named<BoxName>; 2] = [
-    Named {
-        word: "a",
-        value: BoxName::A,
-    },
-    Named {
-        word: "b",
-        value: BoxName::B,
-    },
-];
-
-pub(crate) const CENSORS: [Named<Builtin>; 3] = [
-    Named {
-        word: "refusing",
-        value: Builtin::Refusing,
-    },
-    Named {
-        word: "lying",
-        value: Builtin::Lying,
-    },
-    Named {
-        word: "combined",
-        value: Builtin::Combined,
-    },
-];
+    fn try_from(word: &[u8]) -> Result<CallWord, UnknownWord> {
+        match word {
+            b"open" => Ok(CallWord::Open),
+            b"enrol" => Ok(CallWord::Enrol),
+            b"judge" => Ok(CallWord::Judge),
+            b"read" => Ok(CallWord::Read),
+            b"enter" => Ok(CallWord::Enter),
+            b"amend" => Ok(CallWord::Amend),
+            b"held" => Ok(CallWord::Held),
+            b"remaining" => Ok(CallWord::Remaining),
+            _ => Err(UnknownWord),
+        }
+    }
+}

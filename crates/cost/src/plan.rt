@@ -1,8 +1,9 @@
 // What a run does, as its arguments say.
-use anyhow::anyhow;
 use censors::builtin::Builtin;
-use std::env;
 use std::env::Args;
+use std::error::Error;
+use std::str::FromStr;
+use std::{env, fmt};
 
 // Which secrets and questions are taken.
 #[derive(Clone, Copy)]
@@ -11,6 +12,32 @@ pub(crate) enum Load {
     Usual,
     // secrets and questions for which the refusing censor has to test the most sheets
     Hardest,
+}
+
+// An argument is missing, or is none of the words that may stand there.
+#[derive(Clone, Copy, Debug)]
+pub(crate) struct Usage;
+
+impl fmt::Display for Usage {
+    fn fmt<W: fmt::Write>(&self, f: &mut fmt::Formatter<W>) -> fmt::Result {
+        f.write_str(
+            "cost usual|hardest refusing|lying|combined NAMES COUNTERPARTIES SECRETS QUESTIONS WORDS AMENDMENTS",
+        )
+    }
+}
+
+impl Error for Usage {}
+
+impl FromStr for Load {
+    type Err = Usage;
+
+    fn from_str(word: &str) -> Result<Load, Usage> {
+        match word {
+            "usual" => Ok(Load::Usual),
+            "hardest" => Ok(Load::Hardest),
+            _ => Err(Usage),
+        }
+    }
 }
 
 #[derive(Clone, Copy)]
@@ -33,8 +60,8 @@ impl Plan {
         let mut args = env::args(rt)?;
         let _program = args.next();
         Ok(Plan {
-            load: next_load(&mut args)?,
-            censor: next_censor(&mut args)?,
+            load: next_word(&mut args)?.as_str().parse()?,
+            censor: Builtin::try_from(next_word(&mut args)?.as_bytes()).map_err(|_| Usage)?,
             names: next_number(&mut args)?,
             counterparties: next_number(&mut args)?,
             secrets: next_number(&mut args)?,
@@ -45,38 +72,10 @@ impl Plan {
     }
 }
 
-fn next_load(args: &mut Args) -> anyhow::Result<Load> {
-    let Some(word) = args.next() else {
-        return Err(usage());
-    };
-    match word.as_str() {
-        "usual" => Ok(Load::Usual),
-        "hardest" => Ok(Load::Hardest),
-        _ => Err(usage()),
-    }
-}
-
-fn next_censor(args: &mut Args) -> anyhow::Result<Builtin> {
-    let Some(word) = args.next() else {
-        return Err(usage());
-    };
-    match word.as_str() {
-        "refusing" => Ok(Builtin::Refusing),
-        "lying" => Ok(Builtin::Lying),
-        "combined" => Ok(Builtin::Combined),
-        _ => Err(usage()),
-    }
-}
-
 fn next_number(args: &mut Args) -> anyhow::Result<usize> {
-    let Some(word) = args.next() else {
-        return Err(usage());
-    };
-    Ok(word.as_str().parse::<usize>()?)
+    Ok(next_word(args)?.as_str().parse()?)
 }
 
-fn usage() -> anyhow::Error {
-    anyhow!(
-        "cost usual|hardest refusing|lying|combined NAMES COUNTERPARTIES SECRETS QUESTIONS WORDS AMENDMENTS"
-    )
+fn next_word(args: &mut Args) -> Result<String, Usage> {
+    args.next().ok_or(Usage)
 }

@@ -1,5 +1,5 @@
 use Rattle.std.proofs.Common.{length}
 use Rattle.console.proofs.lists.read_texts.Given as goal
 
-abbrev pub decreases-loop-heap : goal.decreases-loop-heap
-decreases-loop-heap l = length l.fields.rest.now
+abbrev pub decreases-loop-pieces : goal.decreases-loop-pieces
+decreases-loop-pieces l = length l.fields.rest.now
