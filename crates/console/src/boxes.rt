@@ -86,15 +86,33 @@ impl Boxes {
         target: BoxName,
         opening: &Opening,
     ) -> Result<Outcome, NotDone> {
-        let slot = self.slot(target);
-        if slot.is_some() {
+        if self.slot(target).is_some() {
             return Err(Flaw::OpenAlready(target).into());
         }
-        // a box may not be overwritten: what stood in the slot is closed
-        if let Some(before) = slot.replace(OpenBox::open(heap, opening)?) {
+        self.open_new(heap, target, opening)
+    }
+
+    // Apart from the test before it, which so needs no room for a box; by `match`, since `?` would copy the box once more.
+    fn open_new(
+        &mut self,
+        heap: Global,
+        target: BoxName,
+        opening: &Opening,
+    ) -> Result<Outcome, NotDone> {
+        match OpenBox::open(heap, opening) {
+            Ok(opened) => {
+                self.put(target, opened);
+                Ok(Outcome::Opened)
+            }
+            Err(why) => Err(why),
+        }
+    }
+
+    // A box may not be overwritten: what stood in the slot is closed.
+    fn put(&mut self, target: BoxName, opened: OpenBox) {
+        if let Some(before) = self.slot(target).replace(opened) {
             before.close();
         }
-        Ok(Outcome::Opened)
     }
 
     // Enters the slip that the other box keeps.

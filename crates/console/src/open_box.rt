@@ -18,17 +18,20 @@ impl OpenBox {
     pub(crate) fn open(heap: Global, opening: &Opening) -> Result<OpenBox, NotDone> {
         let names = opening.names.list()?;
         let rules = opening.rules.list()?;
-        let query_box = QueryBox::open(
+        // By `match`: `?` would copy the box once more.
+        match QueryBox::open(
             opening.censor,
             opening.number,
             &names,
             &rules,
             opening.sheet,
-        )?;
-        Ok(OpenBox {
-            desk: Desk::new(heap, query_box)?,
-            diary: Diary::new(heap),
-        })
+        ) {
+            Ok(query_box) => Ok(OpenBox {
+                desk: Desk::new(heap, query_box)?,
+                diary: Diary::new(heap),
+            }),
+            Err(fault) => Err(fault.into()),
+        }
     }
 
     // Enters what is still out, and lets the box go.

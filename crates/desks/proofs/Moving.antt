@@ -66,7 +66,7 @@ module _ (h : House) (st : State) (xs : List (Option Slip)) (all : AllOut h.numb
     abbrev out : Out h.number st.parties c s
     out = out_of h.number st.parties xs all c s kept
 
-    entered-kept : AllOut h.number (next h st (Enter (slip_of s))).parties (without xs c)
+    pub entered-kept : AllOut h.number (next h st (Enter (slip_of s))).parties (without xs c)
     entered-kept =
         one-put h.number st (next h st (Enter (slip_of s))) xs all c None
         (λ d ne. enter-stays h st (slip_of s) d (λ same. ne (same ∙ out.counterparty)))

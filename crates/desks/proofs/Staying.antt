@@ -1,15 +1,16 @@
 -- What each call does to the slips that are out.
-use Rattle.std.proofs.Common.{◌≡◌, ℕ, zero, suc, ◌+◌, ◌<◌, Bool, true, false, cond, ◌&&◌, eqb, List, [], ◌∷◌, length, Some, None, Ok, Err, Option, Result, sym, refl, ap, ◌∙◌, arith}
+use Rattle.std.proofs.Common.{◌≡◌, ℕ, zero, suc, ◌+◌, ◌<◌, Bool, true, false, cond, ◌&&◌, eqb, List, [], ◌∷◌, length, Some, None, Ok, Err, Option, Result, sym, refl, ap, ◌∙◌, ⊎_elim, arith}
 use Rattle.std.specs.Prelude.{is_some}
 use Rattle.std.proofs.lemmas.Bool.{both_ways, eq-eqb, eqb-true, and_from, and_parts}
 use Rattle.std.proofs.lemmas.Option.{slice_get_within}
+use Rattle.sentences.specs.declared.cuts.CutList.{CutList}
 use Rattle.censors.specs.declared.question.Question.{Question}
 use Rattle.histories.specs.declared.data.BoxFault.{BoxFault}
 use Rattle.histories.specs.declared.data.BoxFault.TheVariants as fault
 use Rattle.histories.specs.declared.data.Change.{Change}
 use Rattle.histories.specs.declared.data.Pending.{Pending}
-use Rattle.histories.specs.Calls.{Text, House, Party, State, Slip, Judge, Enter, Amend, Outcome, Refused, Enrolled, Judged, Shown, Replied, Unmatched, Amended, at, check, slip_out, judging, matching, next_place, amending, asked, entered, judge_outcome, enter_outcome, outcome, after_judge, after_enter, after_amend, next}
-use Rattle.histories.proofs.Lookups.{at_change_other, at-change, check-index-ok}
+use Rattle.histories.specs.Calls.{Text, House, Party, State, Slip, Enrol, Judge, Enter, Amend, Outcome, Refused, Enrolled, Judged, Shown, Replied, Unmatched, Amended, at, check, slip_out, enrolling, judging, matching, next_place, amending, asked, entered, judge_outcome, enter_outcome, outcome, after_enrol, after_judge, after_enter, after_amend, next}
+use Rattle.histories.proofs.Lookups.{at_change_other, at-change, at_push, check-index-ok}
 use Rattle.desks.specs.Slots.{awaited}
 
 -- the slips that were out for d are out for it still
@@ -42,6 +43,17 @@ same_place k j (Some p) e f =
 
 not_out : (k : ℕ) (o : Option Party) → ((p : Party) → o ≡ Some p → is_some p.pending ≡ false) → awaited k o ≡ true → ⊥
 not_out k o free e = let a = awaits k o e in both_ways (is_some a.party.pending) (free a.party a.is) a.pending
+
+-- ---- enrolling
+
+module _ (h : House) (st : State) where
+  enrol-by : (r : Result Party BoxFault) (d : ℕ) → Stays st (after_enrol h st r) d
+  enrol-by (Err f) d k e = e
+  enrol-by (Ok p) d k e =
+      ⊎_elim (λ same. ap (awaited k) same ∙ e) (λ new. absurd (both_ways false refl (sym (ap (awaited k) new.0) ∙ e))) (at_push st.parties p d)
+
+  pub enrol-stays : (t : Option Text) (list : CutList) (d : ℕ) → Stays st (next h st (Enrol t list)) d
+  enrol-stays t list d = enrol-by (enrolling h (length st.parties) t list) d
 
 -- ---- judging
 

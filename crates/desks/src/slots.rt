@@ -1,5 +1,5 @@
 // The slips that are kept, each at the place of its counterparty.
-ghost use Rattle.std.specs.Prelude.{◌≡◌, ℕ, ◌<◌, Some, None, IfOk, slice_set};
+ghost use Rattle.std.specs.Prelude.{◌≡◌, ℕ, ◌<◌, length, Some, None, IfOk, slice_set};
 ghost use Rattle.histories.specs.Refusals.{face_of};
 ghost use Rattle.querybox.specs.Slips.{slip_of};
 ghost use Rattle.desks.specs.Slots.{slip_at, without};
@@ -30,7 +30,8 @@ impl Model for Slots {
 impl Slots {
     // Places that keep no slip.
     pub(crate) fn new(heap: Global) -> Result<Slots, AllocError>
-        ensures { IfOk result (λ s. (c : ℕ) → slip_at s c ≡ None) }
+        ensures eight { IfOk result (λ s. length s ≡ 8) }
+        ensures empty { IfOk result (λ s. (c : ℕ) → slip_at s c ≡ None) }
     {
         let mut places = Vec::with_capacity(heap, COUNTERPARTIES)?;
         for _ in 0..COUNTERPARTIES {

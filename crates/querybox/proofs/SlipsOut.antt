@@ -9,14 +9,14 @@ use Rattle.querybox.specs.Parties.{party_of, blank}
 abbrev pub out : List Party → ℕ → Bool
 out xs k = is_some (get_or xs k blank).pending
 
-none_out : (c n : ℕ) (xs : List Party) → ((k : ℕ) → k < n → out xs k ≡ false) → slip_out c (map party_of (take n xs)) ≡ None
+pub none_out : (c n : ℕ) (xs : List Party) → ((k : ℕ) → k < n → out xs k ≡ false) → slip_out c (map party_of (take n xs)) ≡ None
 none_out c zero xs e = refl
 none_out c (suc n) [] e = refl
 none_out c (suc n) (x ∷ xs) e =
     ap (λ (t : Bool). cond t (Some c) (slip_out (c + 1) (map party_of (take n xs)))) (e 0 (omega arith))
     ∙ none_out (c + 1) n xs (λ k l. e (suc k) (omega arith))
 
-first_out : (c n p : ℕ) (xs : List Party) → ((k : ℕ) → k < p → out xs k ≡ false) → out xs p ≡ true → p < n → n ≤ length xs
+pub first_out : (c n p : ℕ) (xs : List Party) → ((k : ℕ) → k < p → out xs k ≡ false) → out xs p ≡ true → p < n → n ≤ length xs
     → slip_out c (map party_of (take n xs)) ≡ Some (c + p)
 first_out c zero p xs e h l m = absurd (not-suc-le-zero l)
 first_out c (suc n) p [] e h l m = absurd (not-suc-le-zero m)

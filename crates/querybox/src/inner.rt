@@ -1,5 +1,5 @@
 // The table of a box, which lends its entries one at a time.
-ghost use Rattle.std.specs.Prelude.{◌≡◌, ◌≤◌, length};
+ghost use Rattle.std.specs.Prelude.{◌≡◌, ◌≤◌, ⊤, length};
 
 use std::alloc::AllocError;
 use tables::Table;
@@ -16,6 +16,10 @@ pub struct Inner<T> {
 
 // Written out, since no `Clone` is derived for a type with a parameter and a ghost field.
 impl<T: Copy> Clone for Inner<T> {
+    ghost is_clone = { λ x y. y ≡ x };
+
+    ghost is_infallible = { λ _. ⊤ };
+
     fn clone(&self) -> Result<Self, AllocError> {
         Ok(*self)
     }

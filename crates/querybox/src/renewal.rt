@@ -1,4 +1,4 @@
-// Judging logs again, once the sheet has changed. A censor is asked on copied values alone: nothing is lent while it decides.
+// Judging logs again, once the sheet has changed. A counterparty is lent by the table meanwhile, since a copy of it for each question costs more than most decisions.
 ghost use Rattle.std.specs.Prelude.{◌≡◌, ◌+◌, ◌<◌, ◌≤◌, map, length};
 ghost use Rattle.tables.specs.Entries.{entries};
 ghost use Rattle.histories.specs.Calls.{changed, notes as notes_of};
@@ -44,26 +44,35 @@ impl<'a, C: Censor> Renewal<'a, C> {
         ensures most { result ≤ from + 64 }
     {
         let old = inner.entry(p);
-        let new = self.renewed(old);
-        inner.put(p, new);
+        self.renew_entry(inner, p);
+        let new = inner.entry(p);
         write_notes(old.log.as_slice(), new.log.as_slice(), p, out, from)
     }
 
-    // The questions of one counterparty are judged again, in their order, from the record that it started from.
-    fn renewed(&self, old: Party) -> Party
-        ensures { party_of result ≡ renewed_by C.Censor.good C.Censor.decided C.Censor.after self.now (party_of old) }
+    // The entry p is judged again, on loan. `p < count` says that it is lent.
+    fn renew_entry(&self, inner: &mut Inner<Party>, p: usize)
+        requires { p < inner.old.count }
+        ensures { Moved (renewed_by C.Censor.good C.Censor.decided C.Censor.after self.now) p inner.old inner.new }
     {
-        let mut party = old.restarted();
-        for place in 0..old.log.len() {
-            party = self.rejudged(party, place);
+        if let Some(party) = inner.lend(p) {
+            self.renew(party);
         }
-        party
+    }
+
+    // The questions of one counterparty are judged again, in their order, from the record that it started from.
+    fn renew(&self, party: &mut Party)
+        ensures { party_of party.new ≡ renewed_by C.Censor.good C.Censor.decided C.Censor.after self.now (party_of party.old) }
+    {
+        party.restart();
+        for place in 0..party.log.len() {
+            self.rejudge(party, place);
+        }
     }
 
     // The question at a place is judged again from the record that stands.
-    fn rejudged(&self, party: Party, place: usize) -> Party
-        requires { place < length (entries party.log) }
-        ensures { party_of result ≡ rejudged_by C.Censor.good C.Censor.decided C.Censor.after self.now place (party_of party) }
+    fn rejudge(&self, party: &mut Party, place: usize)
+        requires { place < length (entries party.old.log) }
+        ensures { party_of party.new ≡ rejudged_by C.Censor.good C.Censor.decided C.Censor.after self.now place (party_of party.old) }
     {
         let question = party.log.as_slice()[place].question;
         let decision = self.censor.decide(
@@ -78,6 +87,6 @@ impl<'a, C: Censor> Renewal<'a, C> {
             &question,
             decision.reply,
         );
-        party.replaced(place, decision.reply, known)
+        party.replace(place, decision.reply, known);
     }
 }

@@ -25,7 +25,7 @@ module _ (x : CutList) {block : List ℕ} {cuts : List Cut} (same_block : x.bloc
 
 -- What is read of a list, by whether pieces were left out of it, and by whether it has a fault.
 module _ {R : Type 0} (n : ℕ) (read : Result R ListFault) where
-  left_out_too_large : 0 < n → if_whole n read ≡ Err TooLarge
+  pub left_out_too_large : 0 < n → if_whole n read ≡ Err TooLarge
   left_out_too_large some = let no : nat_eq n 0 ≡ false = grind (arith, nat_tests) in rw no refl
 
   pub whole_or_refused : n ≡ 0 → if_whole n read ≡ or_refused read

@@ -1,5 +1,5 @@
 -- How the machine moves over a text, and how readings grow.
-use Rattle.std.proofs.Common.{◌≡◌, ℕ, suc, ◌+◌, ◌^◌, ◌<◌, ◌≤◌, Bool, cond, ltb, List, [], ◌∷◌, length, IfSome, Some, None, Ok, Err, Option, refl, ap, ◌∙◌, subst, ap₂, arith}
+use Rattle.std.proofs.Common.{◌≡◌, ℕ, suc, ◌+◌, ◌^◌, ◌<◌, ◌≤◌, Bool, cond, ltb, List, [], ◌∷◌, length, Some, None, Ok, Err, Option, refl, ap, ◌∙◌, subst, ap₂, arith}
 use Rattle.std.proofs.lemmas.Bool.{lt-ltb, le-ltb}
 use Rattle.sheets.specs.declared.SheetSet.{SheetSet}
 use Rattle.sheets.specs.Sets.{bit, set_of, meet, union, outside}
@@ -39,12 +39,11 @@ stuck (Sign Or) o x fs a b c = absurd (b refl)
 stuck (Sign Open) o x fs a b c = refl
 stuck (Sign Close) o x fs a b c = c refl
 
--- what holds of a later place in a text, over its names, in the words of the first place
-pub here_too : (P : List Word → List ℕ → Type 0) {c d : Cursor} → SameText c d → P (words d.names.now) d.text.now → P (words c.names.now) c.text.now
-here_too P {c} {d} o x = subst (λ (s : List ℕ). P (words c.names.now) s) o.text (subst (λ (n : Names). P (words n) d.text.now) o.names x)
-
-pub same_text : {c d e : Cursor} → SameText c d → SameText d e → SameText c e
-same_text p q = record { names = q.names ∙ p.names; text = q.text ∙ p.text }
+-- what holds of a place in a text, in the words of another place of the same text
+pub here_too : (P : List Word → List ℕ → ℕ → Type 0) {c d : Cursor} {p : ℕ} → SameText c d → d.at ≡ p → P (words d.names.now) d.text.now d.at → P (words c.names.now) c.text.now p
+here_too P {c} {d} o e x =
+    subst (λ (n : ℕ). P (words c.names.now) c.text.now n) e
+    (subst (λ (s : List ℕ). P (words c.names.now) s d.at) o.text (subst (λ (n : Names). P (words n) d.text.now d.at) o.names x))
 
 module _ (ns : List Word) (s : List ℕ) where
   pub parse-end : (at : ℕ) (st : State) → scan_at s at ≡ end (length s) → parse ns st (scan_at s at) ≡ finish (length s) st
@@ -61,7 +60,7 @@ module _ (ns : List Word) (s : List ℕ) where
       ap (parse ns st) g.scans ∙ ap (λ (o : Option Symbol). if_named p o (λ x. if_fits p (on st x) (λ st'. parse ns st' (scan_at s q)))) e
 
   -- what was found, by the case that a reader looks at
-  pub found : (at : ℕ) {o : Option (Found Symbol)} {x : Found Symbol} → NextSymbol ns s at (Ok o) → o ≡ Some x → Symbolic ns s at x.what x.start x.rest.at
+  pub found : (at : ℕ) {o : Option (Found Symbol)} {x : Found Symbol} → NextSymbol ns s at (Ok o) → o ≡ Some x → Symbolic ns s at x.what x.start x.after
   found at m e = subst (λ (o : Option (Found Symbol)). NextSymbol ns s at (Ok o)) e m
 
   pub none_found : (at : ℕ) {o : Option (Found Symbol)} → NextSymbol ns s at (Ok o) → o ≡ None → scan_at s at ≡ end (length s)
@@ -224,17 +223,11 @@ module _ (ns : List Word) (s : List ℕ) where
         let set : parse ns (want fresh []) (scan_at s 0) ≡ Ok v = w.whole.comes [] ∙ parse-end l _ e ∙ ap Ok w.whole.sum in
         reads-parse h ∙ ap₂ (meaning ns) all set
 
--- what was found from a later place on, in the words of the first place
-pub found_later : {c d : Cursor} → SameText c d → {o : Option (Found Symbol)} {x : Found Symbol} → NextSymbol (words d.names.now) d.text.now d.at (Ok o) → o ≡ Some x
-    → Symbolic (words c.names.now) c.text.now d.at x.what x.start x.rest.at
-found_later {d = d} p {x = x} m e = here_too (λ ns s. Symbolic ns s d.at x.what x.start x.rest.at) p (found _ _ d.at m e)
+-- what was found from another place of the same text on
+pub found_there : {c d : Cursor} {p : ℕ} → SameText c d → d.at ≡ p → {o : Option (Found Symbol)} {x : Found Symbol} → NextSymbol (words d.names.now) d.text.now d.at (Ok o) → o ≡ Some x
+    → Symbolic (words c.names.now) c.text.now p x.what x.start x.after
+found_there {d = d} o e {x = x} m h = here_too (λ ns s at. Symbolic ns s at x.what x.start x.after) o e (found _ _ d.at m h)
 
-pub none_later : {c d : Cursor} → SameText c d → {o : Option (Found Symbol)} → NextSymbol (words d.names.now) d.text.now d.at (Ok o) → o ≡ None
-    → scan_at c.text.now d.at ≡ end (length c.text.now)
-none_later {d = d} p m e = here_too (λ ns s. scan_at s d.at ≡ end (length s)) p (none_found (words d.names.now) d.text.now d.at m e)
-
-pub goes_onward : {c d : Cursor} → SameText c d → {o : Option (Found Symbol)} {x : Found Symbol} → IfSome o (λ y. SameText d y.rest) → o ≡ Some x → SameText c x.rest
-goes_onward {d = d} p m e = same_text p (subst (λ (o : Option (Found Symbol)). IfSome o (λ y. SameText d y.rest)) e m)
-
-pub same_place : (c : Cursor) → SameText c c
-same_place c = record { names = refl; text = refl }
+pub none_there : {c d : Cursor} {p : ℕ} → SameText c d → d.at ≡ p → {o : Option (Found Symbol)} → NextSymbol (words d.names.now) d.text.now d.at (Ok o) → o ≡ None
+    → scan_at c.text.now p ≡ end (length c.text.now)
+none_there {d = d} o e m h = here_too (λ ns s at. scan_at s at ≡ end (length s)) o e (none_found (words d.names.now) d.text.now d.at m h)

@@ -3,7 +3,7 @@ use Rattle.std.proofs.Common.{◌≡◌, ℕ, zero, suc, ◌+◌, ◌-◌, ◌<�
 use Rattle.std.specs.List.{prefix_len}
 use Rattle.std.proofs.lemmas.Bool.{cases_eq, cases_lt}
 use Rattle.std.proofs.lemmas.List.{take_all, drop_more, at_drop_more, at_drop_all, get_or-drop, length-drop}
-use Rattle.std.proofs.lemmas.List.Sums.{prefix_len-drop_yes, prefix_len-le-length, prefix_len_passes, prefix_len_stops}
+use Rattle.std.proofs.lemmas.List.Sums.{prefix_len-le-length, prefix_len_passes, prefix_len_stops}
 use Rattle.sentences.specs.declared.tokens.Sign.{Sign}
 use Rattle.sentences.specs.declared.tokens.Class.{Class}
 use Rattle.sentences.specs.declared.tokens.Class.TheVariants as class
@@ -87,30 +87,30 @@ module _ (s : List ℕ) where
       → scan_at s i ≡ token (word (take (j - i) (drop i s))) i j (scan_at s j)
   scan-word i j h = scan-run (j - (i + 1)) i j (omega arith)
 
-  -- so are the letters that the text begins with at i
-  pub scan-letters : (i : ℕ) → i < length s → class_of (get_or s i 0) ≡ class.Letter
-      → Goes s i (word (take (prefix_len word_byte (drop i s)) (drop i s))) i (i + prefix_len word_byte (drop i s))
-  scan-letters i h e =
-      let n = prefix_len word_byte (drop i s) in
-      let first : n ≡ 1 + prefix_len word_byte (drop (i + 1) s) = prefix_len-drop_yes word_byte s i 0 h (word_letter _ e) in
-      let inside : n ≤ length (drop i s) = prefix_len-le-length word_byte (drop i s) in
-      let run : Letters s i (i + n) = λ k l m.
-      let k1 : i + (k - i) ≡ k = omega arith in
-      letter_word _ (ap (λ (j : ℕ). word_byte (get_or s j 0)) (sym k1) ∙ ap word_byte (sym (get_or-drop i s (k - i) 0)) ∙ prefix_len_passes word_byte (drop i s) (k - i) 0 (omega arith)) in
-      let stops : i + n < length s → class_of (get_or s (i + n) 0) ≡ class.Letter → ⊥ = λ l c.
-      true≢false (sym (word_letter _ c) ∙ ap word_byte (sym (get_or-drop i s n 0)) ∙ prefix_len_stops word_byte (drop i s) 0 (omega (arith, length-drop i s))) in
-      let same : (i + n) - i ≡ n = omega arith in
-      record {
-        scans = scan-word i (i + n) (omega (arith, first)) (omega (arith, inside, length-drop i s)) run stops
-            ∙ ap (λ (k : ℕ). token (word (take k (drop i s))) i (i + n) (scan_at s (i + n))) same;
-        moves = omega (arith, first);
-        within = omega (arith, inside, length-drop i s);
-      }
-
   -- one byte in front of a run of its class
   pub run_more : {c : Class} (i j : ℕ) → class_of (get_or s i 0) ≡ c → Run c s (i + 1) j → Run c s i j
   run_more {c} i j e run k h l =
       ⊎_elim (λ p. subst (λ (n : ℕ). class_of (get_or s n 0) ≡ c) (sym p) e) (λ p. run k (omega arith) l) (cases_eq k i)
+
+  -- a letter and the letters right behind it are a word
+  pub scan-letters : (i : ℕ) → i < length s → class_of (get_or s i 0) ≡ class.Letter
+      → Goes s i (word (take (1 + prefix_len word_byte (drop (i + 1) s)) (drop i s))) i (i + 1 + prefix_len word_byte (drop (i + 1) s))
+  scan-letters i h e =
+      let n = prefix_len word_byte (drop (i + 1) s) in
+      let inside : n ≤ length (drop (i + 1) s) = prefix_len-le-length word_byte (drop (i + 1) s) in
+      let within : i + 1 + n ≤ length s = omega (arith, inside, length-drop (i + 1) s) in
+      let run : Letters s (i + 1) (i + 1 + n) = λ k l m.
+      let k1 : i + 1 + (k - (i + 1)) ≡ k = omega arith in
+      letter_word _ (ap (λ (j : ℕ). word_byte (get_or s j 0)) (sym k1) ∙ ap word_byte (sym (get_or-drop (i + 1) s (k - (i + 1)) 0)) ∙ prefix_len_passes word_byte (drop (i + 1) s) (k - (i + 1)) 0 (omega arith)) in
+      let stops : i + 1 + n < length s → class_of (get_or s (i + 1 + n) 0) ≡ class.Letter → ⊥ = λ l c.
+      true≢false (sym (word_letter _ c) ∙ ap word_byte (sym (get_or-drop (i + 1) s n 0)) ∙ prefix_len_stops word_byte (drop (i + 1) s) 0 (omega (arith, length-drop (i + 1) s))) in
+      let same : (i + 1 + n) - i ≡ 1 + n = omega arith in
+      record {
+        scans = scan-word i (i + 1 + n) (omega arith) within (run_more i (i + 1 + n) e run) stops
+            ∙ ap (λ (k : ℕ). token (word (take k (drop i s))) i (i + 1 + n) (scan_at s (i + 1 + n))) same;
+        moves = omega arith;
+        within = within;
+      }
 
   -- blanks in front of a token
   pub blanks-goes : {i j p q : ℕ} {t : Tok} → scan_at s i ≡ scan_at s j → i ≤ j → Goes s j t p q → Goes s i t p q

@@ -20,7 +20,7 @@ pub record Symbolic (ns : List Word) (s : List ℕ) (at : ℕ) (k : Symbol) (sta
 
 abbrev pub NextSymbol : List Word → List ℕ → ℕ → Result (Option (Found Symbol)) SentenceFault → Type 0
 NextSymbol ns s at (Ok None) = scan_at s at ≡ end (length s)
-NextSymbol ns s at (Ok (Some x)) = Symbolic ns s at x.what x.start x.rest.at
+NextSymbol ns s at (Ok (Some x)) = Symbolic ns s at x.what x.start x.after
 NextSymbol ns s at (Err f) = (st : State) → parse ns st (scan_at s at) ≡ Err f
 
 -- the tokens of s from `at` up to `after` are n
@@ -60,13 +60,13 @@ pub record SentenceRead (ns : List Word) (s : List ℕ) (at : ℕ) (x : SheetSet
   pub no_or : Lacks s after Or
 
 abbrev pub PartIs : List Word → List ℕ → ℕ → Result Progress SentenceFault → Type 0
-PartIs ns s at (Ok r) = PartRead ns s at r.sheets r.tokens r.rest.at
+PartIs ns s at (Ok r) = PartRead ns s at r.sheets r.tokens r.after
 PartIs ns s at (Err f) = (g : Frame) (fs : List Frame) → parse ns (want g fs) (scan_at s at) ≡ Err f
 
 abbrev pub ClauseIs : List Word → List ℕ → ℕ → Result Progress SentenceFault → Type 0
-ClauseIs ns s at (Ok r) = ClauseRead ns s at r.sheets r.tokens r.rest.at
+ClauseIs ns s at (Ok r) = ClauseRead ns s at r.sheets r.tokens r.after
 ClauseIs ns s at (Err f) = (o : Option SheetSet) (fs : List Frame) → parse ns (want (frame o None 0) fs) (scan_at s at) ≡ Err f
 
 abbrev pub SentenceIs : List Word → List ℕ → ℕ → Result Progress SentenceFault → Type 0
-SentenceIs ns s at (Ok r) = SentenceRead ns s at r.sheets r.tokens r.rest.at
+SentenceIs ns s at (Ok r) = SentenceRead ns s at r.sheets r.tokens r.after
 SentenceIs ns s at (Err f) = (fs : List Frame) → parse ns (want fresh fs) (scan_at s at) ≡ Err f

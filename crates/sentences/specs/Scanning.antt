@@ -62,5 +62,5 @@ pub record Goes (s : List ℕ) (at : ℕ) (t : Tok) (start after : ℕ) : Type 0
 -- what stands next in s from `at` on: nothing, a byte that belongs to no token, or a token
 abbrev pub NextIs : List ℕ → ℕ → Result (Option (Found Token)) SentenceFault → Type 0
 NextIs s at (Ok None) = scan_at s at ≡ end (length s)
-NextIs s at (Ok (Some x)) = Goes s at (tok_of x.what) x.start x.rest.at
+NextIs s at (Ok (Some x)) = Goes s at (tok_of x.what) x.start x.after
 NextIs s at (Err f) = (p : ℕ) × (f ≡ Stray p) × (scan_at s at ≡ stray p)

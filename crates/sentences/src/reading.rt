@@ -1,5 +1,5 @@
 // The readers of sentence, clause and part.
-ghost use Rattle.std.specs.Prelude.{◌≡◌, IfOk};
+ghost use Rattle.std.specs.Prelude.{◌≡◌, ◌≤◌, length};
 ghost use Rattle.sentences.specs.Cursors.{SameText};
 ghost use Rattle.sentences.specs.Machine.{reading as reading_of};
 ghost use Rattle.sentences.specs.Naming.{words};
@@ -23,65 +23,77 @@ pub struct Meaning {
     pub tokens: usize,
 }
 
-// What a reader has read so far, and the rest of the text.
+// What a reader has read so far, and the place at which the text goes on.
 #[derive(Clone, Copy)]
-pub struct Progress<'a> {
+pub struct Progress {
     sheets: SheetSet,
     tokens: usize,
-    rest: Cursor<'a>,
+    after: usize,
+}
+
+impl<'a> Cursor<'a> {
+    // The place `at` of the same text.
+    fn moved_to(&self, at: usize) -> Cursor<'a>
+        requires { at ≤ length self.now.text.now }
+        ensures place { result.at ≡ at }
+        ensures same { SameText self.now result }
+    {
+        Cursor {
+            names: self.names,
+            text: self.text,
+            at,
+        }
+    }
 }
 
 // Each rule of the grammar has its reader, and they call each other as the rules do.
-impl<'a> Cursor<'a> {
+impl Cursor<'_> {
     #[cycle(clause_part_sentence)]
-    fn sentence(&self) -> Result<Progress<'a>, SentenceFault>
-        ensures is { SentenceIs (words self.now.names.now) self.now.text.now self.now.at result }
-        ensures same_text { IfOk result (λ read. SameText self.now read.rest) }
+    fn sentence(&self) -> Result<Progress, SentenceFault>
+        ensures { SentenceIs (words self.now.names.now) self.now.text.now self.now.at result }
     {
         let mut so_far = self.clause()?;
         loop {
-            let Some(found) = so_far.rest.symbol()? else {
+            let Some(found) = self.moved_to(so_far.after).symbol()? else {
                 return Ok(so_far);
             };
             if !found.is(Sign::Or) {
                 return Ok(so_far);
             }
-            let more = found.rest.clause()?;
+            let more = self.moved_to(found.after).clause()?;
             so_far = Progress {
                 sheets: so_far.sheets.union(&more.sheets),
                 tokens: so_far.tokens + 1 + more.tokens,
-                rest: more.rest,
+                after: more.after,
             };
         }
     }
 
     #[cycle(clause_part_sentence)]
-    fn clause(&self) -> Result<Progress<'a>, SentenceFault>
-        ensures is { ClauseIs (words self.now.names.now) self.now.text.now self.now.at result }
-        ensures same_text { IfOk result (λ read. SameText self.now read.rest) }
+    fn clause(&self) -> Result<Progress, SentenceFault>
+        ensures { ClauseIs (words self.now.names.now) self.now.text.now self.now.at result }
     {
         let mut so_far = self.part()?;
         loop {
-            let Some(found) = so_far.rest.symbol()? else {
+            let Some(found) = self.moved_to(so_far.after).symbol()? else {
                 return Ok(so_far);
             };
             if !found.is(Sign::And) {
                 return Ok(so_far);
             }
-            let more = found.rest.part()?;
+            let more = self.moved_to(found.after).part()?;
             so_far = Progress {
                 sheets: so_far.sheets.meet(&more.sheets),
                 tokens: so_far.tokens + 1 + more.tokens,
-                rest: more.rest,
+                after: more.after,
             };
         }
     }
 
     // Tried with `ok_or` for the two `let .. else`, and with one flat match: the proof of the cycle did not close.
     #[cycle(clause_part_sentence)]
-    fn part(&self) -> Result<Progress<'a>, SentenceFault>
-        ensures is { PartIs (words self.now.names.now) self.now.text.now self.now.at result }
-        ensures same_text { IfOk result (λ read. SameText self.now read.rest) }
+    fn part(&self) -> Result<Progress, SentenceFault>
+        ensures { PartIs (words self.now.names.now) self.now.text.now self.now.at result }
     {
         let Some(found) = self.symbol()? else {
             return Err(SentenceFault::Misfit(self.text.len()));
@@ -90,20 +102,20 @@ impl<'a> Cursor<'a> {
             Symbol::Fact(index) => Ok(Progress {
                 sheets: SheetSet::fact(index),
                 tokens: 1,
-                rest: found.rest,
+                after: found.after,
             }),
             Symbol::Sign(sign) => match sign {
                 Sign::Not => {
-                    let inner = found.rest.part()?;
+                    let inner = self.moved_to(found.after).part()?;
                     Ok(Progress {
                         sheets: inner.sheets.outside(),
                         tokens: 1 + inner.tokens,
-                        rest: inner.rest,
+                        after: inner.after,
                     })
                 }
                 Sign::Open => {
-                    let inner = found.rest.sentence()?;
-                    let Some(last) = inner.rest.symbol()? else {
+                    let inner = self.moved_to(found.after).sentence()?;
+                    let Some(last) = self.moved_to(inner.after).symbol()? else {
                         return Err(SentenceFault::Misfit(self.text.len()));
                     };
                     if !last.is(Sign::Close) {
@@ -112,7 +124,7 @@ impl<'a> Cursor<'a> {
                     Ok(Progress {
                         sheets: inner.sheets,
                         tokens: 1 + inner.tokens + 1,
-                        rest: last.rest,
+                        after: last.after,
                     })
                 }
                 Sign::And | Sign::Or | Sign::Close => Err(SentenceFault::Misfit(found.start)),
@@ -131,7 +143,7 @@ pub fn parse(names: &Names, text: &[u8]) -> Result<Meaning, SentenceFault>
     }
     let start = Cursor { names, text, at: 0 };
     let whole = start.sentence()?;
-    match whole.rest.symbol()? {
+    match start.moved_to(whole.after).symbol()? {
         Some(found) => Err(SentenceFault::Misfit(found.start)),
         None => Ok(Meaning {
             sheets: SheetSet::below(names.count()).meet(&whole.sheets),

@@ -1,6 +1,5 @@
 // Symbols: tokens whose names have been looked up.
-ghost use Rattle.std.specs.Prelude.{◌≡◌, Decides, IfOk, IfSome};
-ghost use Rattle.sentences.specs.Cursors.{SameText};
+ghost use Rattle.std.specs.Prelude.{◌≡◌, Decides};
 ghost use Rattle.sentences.specs.Machine.{symbol_of};
 ghost use Rattle.sentences.specs.Naming.{words};
 ghost use Rattle.sentences.specs.Reads.{NextSymbol};
@@ -18,7 +17,7 @@ pub enum Symbol {
     Fact(usize),
 }
 
-impl Found<'_, Symbol> {
+impl Found<Symbol> {
     pub(crate) fn is(&self, sign: Sign) -> bool
         ensures { Decides result (self.now.what ≡ Symbol.Sign sign) }
     {
@@ -36,11 +35,10 @@ fn look_up(names: &Names, token: Token) -> Option<Symbol>
     }
 }
 
-impl<'a> Cursor<'a> {
+impl Cursor<'_> {
     // The next symbol of the text, after the tests of its byte and of its name.
-    pub(crate) fn symbol(&self) -> Result<Option<Found<'a, Symbol>>, SentenceFault>
-        ensures is { NextSymbol (words self.now.names.now) self.now.text.now self.now.at result }
-        ensures same_text { IfOk result (λ found. IfSome found (λ x. SameText self.now x.rest)) }
+    pub(crate) fn symbol(&self) -> Result<Option<Found<Symbol>>, SentenceFault>
+        ensures { NextSymbol (words self.now.names.now) self.now.text.now self.now.at result }
     {
         let Some(found) = self.token()? else {
             return Ok(None);
@@ -49,7 +47,7 @@ impl<'a> Cursor<'a> {
         Ok(Some(Found {
             what: symbol,
             start: found.start,
-            rest: found.rest,
+            after: found.after,
         }))
     }
 }

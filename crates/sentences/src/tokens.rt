@@ -1,7 +1,6 @@
 // Tokens: the signs and words of a text, taken from the left.
-ghost use Rattle.std.specs.Prelude.{◌≡◌, ℕ, ◌+◌, ◌<◌, ◌≤◌, length, IfOk, IfSome};
+ghost use Rattle.std.specs.Prelude.{◌≡◌, ℕ, ◌+◌, ◌<◌, ◌≤◌, length};
 ghost use Rattle.std.specs.List.{prefix_len};
-ghost use Rattle.sentences.specs.Cursors.{SameText};
 ghost use Rattle.sentences.specs.Scanning.{NextIs};
 ghost use Rattle.sentences.specs.Tokens.{class_of, word_byte};
 
@@ -33,12 +32,12 @@ pub enum Token<'a> {
     Word(&'a [u8]),
 }
 
-// What was found in a text, with the place at which it begins and the rest of the text.
+// What was found in a text, with the place at which it begins and the place at which the text goes on.
 #[derive(Clone, Copy)]
-pub struct Found<'a, T> {
+pub struct Found<T> {
     pub what: T,
     pub start: usize,
-    pub rest: Cursor<'a>,
+    pub after: usize,
 }
 
 // A small letter or a digit.
@@ -73,41 +72,27 @@ fn word_len(text: &[u8]) -> usize
 }
 
 impl<'a> Cursor<'a> {
-    // The place `at` of the same text.
-    fn moved_to(&self, at: usize) -> Cursor<'a>
-        requires { at ≤ length self.now.text.now }
-        ensures place { result.at ≡ at }
-        ensures same { SameText self.now result }
-    {
-        Cursor {
-            names: self.names,
-            text: self.text,
-            at,
-        }
-    }
-
     // The next token of the text.
-    pub(crate) fn token(&self) -> Result<Option<Found<'a, Token<'a>>>, SentenceFault>
-        ensures is { NextIs self.now.text.now self.now.at result }
-        ensures same_text { IfOk result (λ found. IfSome found (λ x. SameText self.now x.rest)) }
+    pub(crate) fn token(&self) -> Result<Option<Found<Token<'a>>>, SentenceFault>
+        ensures { NextIs self.now.text.now self.now.at result }
     {
         for (skipped, byte) in self.text[self.at..].iter().enumerate() {
             let start = self.at + skipped;
             match classify(*byte) {
                 Class::Blank => {}
                 Class::Letter => {
-                    let after = start + word_len(&self.text[start..]);
+                    let after = start + 1 + word_len(&self.text[start + 1..]);
                     return Ok(Some(Found {
                         what: Token::Word(&self.text[start..after]),
                         start,
-                        rest: self.moved_to(after),
+                        after,
                     }));
                 }
                 Class::Sign(sign) => {
                     return Ok(Some(Found {
                         what: Token::Sign(sign),
                         start,
-                        rest: self.moved_to(start + 1),
+                        after: start + 1,
                     }));
                 }
                 Class::Other => return Err(SentenceFault::Stray(start)),

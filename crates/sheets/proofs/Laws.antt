@@ -32,7 +32,7 @@ pub mem-meet : (a b : SheetSet) (s : ℕ) → s < 256 → mem (meet a b) s ≡ (
 unfolding meet
 mem-meet a b = mem-set_of (λ s. mem a s && mem b s)
 
-mem-minus : (a b : SheetSet) (s : ℕ) → s < 256 → mem (minus a b) s ≡ (mem a s && not (mem b s))
+pub mem-minus : (a b : SheetSet) (s : ℕ) → s < 256 → mem (minus a b) s ≡ (mem a s && not (mem b s))
 unfolding minus
 mem-minus a b = mem-set_of (λ s. mem a s && not (mem b s))
 
@@ -52,19 +52,19 @@ outside-set_of f = set_of_ext _ _ (λ s h. ap not (mem-set_of f s h))
 
 -- ---- a test of each number below n
 
-every-at : (f : ℕ → Bool) (n : ℕ) → every f n ≡ true → (s : ℕ) → s < n → f s ≡ true
+pub every-at : (f : ℕ → Bool) (n : ℕ) → every f n ≡ true → (s : ℕ) → s < n → f s ≡ true
 unfolding every
 every-at f zero e s h = absurd (not-suc-le-zero h)
 every-at f (suc n) e s h =
     let both = and_parts (every f n) (f n) e in
     ⊎_elim (λ p. subst (λ (k : ℕ). f k ≡ true) (sym p) both.1) (λ ne. every-at f n both.0 s (omega arith)) (cases_eq s n)
 
-every_from : (f : ℕ → Bool) (n : ℕ) → ((s : ℕ) → s < n → f s ≡ true) → every f n ≡ true
+pub every_from : (f : ℕ → Bool) (n : ℕ) → ((s : ℕ) → s < n → f s ≡ true) → every f n ≡ true
 unfolding every
 every_from f zero e = refl
 every_from f (suc n) e = and_from (every f n) (f n) (every_from f n (λ s h. e s (omega arith))) (e n (omega arith))
 
-every_fails : (f : ℕ → Bool) (n : ℕ) → every f n ≡ false → (s : ℕ) × (s < n) × (f s ≡ false)
+pub every_fails : (f : ℕ → Bool) (n : ℕ) → every f n ≡ false → (s : ℕ) × (s < n) × (f s ≡ false)
 unfolding every
 every_fails f zero e = absurd (true≢false e)
 every_fails f (suc n) e =
@@ -93,13 +93,13 @@ count_none f (suc n) =
 
 -- ---- a test of each element of a list, by its index; the default d is never read
 
-any_at : {A : Type 0} (f : A → Bool) (xs : List A) (d : A) → any f xs ≡ true → (k : ℕ) × (k < length xs) × (f (get_or xs k d) ≡ true)
+pub any_at : {A : Type 0} (f : A → Bool) (xs : List A) (d : A) → any f xs ≡ true → (k : ℕ) × (k < length xs) × (f (get_or xs k d) ≡ true)
 unfolding any
 any_at f [] d e = absurd (true≢false (sym e))
 any_at f (x ∷ xs) d e =
     ⊎_elim (λ p. (0, zero-lt-suc (length xs), p)) (λ p. let u = any_at f xs d p in (suc u.0, suc-le-suc u.1, u.2)) (or_cases (f x) (any f xs) e)
 
-any_from : {A : Type 0} (f : A → Bool) (xs : List A) (d : A) (k : ℕ) → k < length xs → f (get_or xs k d) ≡ true → any f xs ≡ true
+pub any_from : {A : Type 0} (f : A → Bool) (xs : List A) (d : A) (k : ℕ) → k < length xs → f (get_or xs k d) ≡ true → any f xs ≡ true
 unfolding any
 any_from f [] d k h e = absurd (not-suc-le-zero h)
 any_from f (x ∷ xs) d zero h e = or_left (f x) (any f xs) e
@@ -108,7 +108,7 @@ any_from f (x ∷ xs) d (suc k) h e = or_right (f x) (any f xs) (any_from f xs d
 pub any_false : {A : Type 0} (f : A → Bool) (xs : List A) (d : A) → any f xs ≡ false → (k : ℕ) → k < length xs → f (get_or xs k d) ≡ false
 any_false f xs d e k h = false_from_ne_true (f (get_or xs k d)) (λ p. both_ways (any f xs) e (any_from f xs d k h p))
 
-any_none : {A : Type 0} (f : A → Bool) (xs : List A) (d : A) → ((k : ℕ) → k < length xs → f (get_or xs k d) ≡ false) → any f xs ≡ false
+pub any_none : {A : Type 0} (f : A → Bool) (xs : List A) (d : A) → ((k : ℕ) → k < length xs → f (get_or xs k d) ≡ false) → any f xs ≡ false
 any_none f xs d e = false_from_ne_true (any f xs) (λ p. let u = any_at f xs d p in both_ways (f (get_or xs u.0 d)) (e u.0 u.1) u.2)
 
 -- a chain that tests each element answers as `any` does
@@ -144,15 +144,15 @@ all-not f g n s h p q = false_from_ne_true (every (λ s. not (f s) || g s) n) (�
 
 -- ---- one set within another, within one of several, and within several together
 
-within-at : (a b : SheetSet) → within a b ≡ true → (s : ℕ) → s < 256 → mem a s ≡ true → mem b s ≡ true
+pub within-at : (a b : SheetSet) → within a b ≡ true → (s : ℕ) → s < 256 → mem a s ≡ true → mem b s ≡ true
 unfolding within
 within-at a b = all-at (mem a) (mem b) 256
 
-within_from : (a b : SheetSet) → ((s : ℕ) → s < 256 → mem a s ≡ true → mem b s ≡ true) → within a b ≡ true
+pub within_from : (a b : SheetSet) → ((s : ℕ) → s < 256 → mem a s ≡ true → mem b s ≡ true) → within a b ≡ true
 unfolding within
 within_from a b = all_from (mem a) (mem b) 256
 
-within_fails : (a b : SheetSet) → within a b ≡ false → (s : ℕ) × (s < 256) × (mem a s ≡ true) × (mem b s ≡ false)
+pub within_fails : (a b : SheetSet) → within a b ≡ false → (s : ℕ) × (s < 256) × (mem a s ≡ true) × (mem b s ≡ false)
 unfolding within
 within_fails a b = all_fails (mem a) (mem b) 256
 
@@ -172,6 +172,10 @@ within_one_fails a xs d e k h = within_fails a (get_or xs k d) (any_false (withi
 pub within_one_not : (a : SheetSet) (xs : List SheetSet) (d : SheetSet) → ((k : ℕ) → k < length xs → within a (get_or xs k d) ≡ false) → within_one a xs ≡ false
 unfolding within_one
 within_one_not a = any_none (within a)
+
+pub within_union_from : (a : SheetSet) (xs : List SheetSet) → ((s : ℕ) → s < 256 → mem a s ≡ true → any (λ x. mem x s) xs ≡ true) → within_union a xs ≡ true
+unfolding within_union
+within_union_from a xs = all_from (mem a) (λ s. any (λ x. mem x s) xs) 256
 
 pub within_union_fails : (a : SheetSet) (xs : List SheetSet) → within_union a xs ≡ false
     → (s : ℕ) × (s < 256) × (mem a s ≡ true) × (any (λ x. mem x s) xs ≡ false)

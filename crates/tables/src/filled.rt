@@ -1,5 +1,5 @@
 // A fixed array of which the first entries are in use. It holds no memory but its own, and can be copied.
-ghost use Rattle.std.specs.Prelude.{◌≡◌, ◌≤◌, length};
+ghost use Rattle.std.specs.Prelude.{◌≡◌, ◌≤◌, ⊤, length};
 
 use std::alloc::AllocError;
 
@@ -14,6 +14,10 @@ pub struct Filled<T, const N: usize> {
 
 // Written out, since no `Clone` is derived for a type with a parameter and a ghost field.
 impl<T: Copy, const N: usize> Clone for Filled<T, N> {
+    ghost is_clone = { λ x y. y ≡ x };
+
+    ghost is_infallible = { λ _. ⊤ };
+
     fn clone(&self) -> Result<Self, AllocError> {
         Ok(*self)
     }

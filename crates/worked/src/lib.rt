@@ -50,6 +50,6 @@ pub fn read_row(row: usize) -> Option<Result<Meaning, SentenceFault>>
     ensures by_rule { AllHold the_rows }
     ensures runs_by_rule { RowsHold the_run_rows }
 {
-    let names = names();
-    text(row).map(|text| parse(&names, text))
+    let text = text(row)?;
+    Some(parse(&names(), text))
 }

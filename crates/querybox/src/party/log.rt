@@ -54,21 +54,19 @@ impl Party {
     }
 
     // The record is again what it started from.
-    pub(crate) fn restarted(mut self) -> Party
-        ensures { party_of result ≡ restarted (party_of self) }
+    pub(crate) fn restart(&mut self)
+        ensures { party_of self.new ≡ restarted (party_of self.old) }
     {
         self.known = self.start;
-        self
     }
 
     // The reply at a place and the record are replaced; the question stands.
-    pub(crate) fn replaced(mut self, place: usize, reply: Reply, known: SheetSet) -> Party
-        requires { place < length (entries self.log) }
-        ensures { party_of result ≡ replaced place reply known (party_of self) }
+    pub(crate) fn replace(&mut self, place: usize, reply: Reply, known: SheetSet)
+        requires { place < length (entries self.old.log) }
+        ensures { party_of self.new ≡ replaced place reply known (party_of self.old) }
     {
         let question = self.log.as_slice()[place].question;
         self.log.replace(place, Entry { question, reply });
         self.known = known;
-        self
     }
 }

@@ -4,6 +4,7 @@ use Rattle.querybox.specs.declared.slip.Slip.{Slip}
 use Rattle.querybox.specs.States.{state_of}
 use Rattle.desks.specs.Slots.{slip_at}
 use Rattle.desks.proofs.Moving.{own_out, same_back, back_below, back_there}
+use Rattle.desks.proofs.Places.{still_eight}
 use Rattle.desks.proofs.Desk.enter_from.Goals as goal
 
 -- ---- this box takes the slip
@@ -13,7 +14,11 @@ invariant_of-self g c =
     let d = c.args.self.now in
     let e = c.args.other.now in
     let took = c.take.ensures in
-    record { out = own_out d.slips d.out e.query_box e.slips e.out c.args.counterparty (sym took.value ∙ c.in_ok-slip.was) c.in-Ok.ensures took.left c.exchange.ensures.own }
+    let own = c.exchange.ensures.own in
+    record {
+      eight = still_eight d.slips _ _ own d.eight;
+      out = own_out d.slips d.out e.query_box e.slips e.out c.args.counterparty (sym took.value ∙ c.in_ok-slip.was) c.in-Ok.ensures took.left own;
+    }
 
 pub returns-in-Ok-clause-others : goal.returns-in-Ok-clause-others
 returns-in-Ok-clause-others g c =

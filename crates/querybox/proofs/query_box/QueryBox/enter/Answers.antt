@@ -1,4 +1,5 @@
-use Rattle.std.proofs.Common.{◌≡◌, Some, refl, ap, ◌∙◌}
+use Rattle.std.proofs.Common.{◌≡◌, length, Some, refl, ap, ◌∙◌}
+use Rattle.tables.specs.Entries.{entries}
 use Rattle.sentences.specs.Lists.{sets_of}
 use Rattle.histories.specs.Calls.{House, change, entered, with_parties}
 use Rattle.querybox.specs.declared.party.Party.{Party}
@@ -24,8 +25,9 @@ returns g c =
     let x : Party = entry_at b.inner c.spend.result blank in
     let out : x.pending ≡ Some e = cc in
     let left : c.record_after-known.result ≡ (house g b).after x.known (sets_of x.secrets) e.question e.decision.reply = cc in
+    let last : c.args.slip.place ≡ length (entries c.in-Ok.party.log) = cc in
     let parties = moved-parties (c.append.ensures (house g b) e out left) ∙ ap (change (entered (house g b) e) (parties_of b.inner)) c.spend.ensures in
-    let does = enter_done (house g b) (state_of b) (slip_of c.args.slip) c.in-Ok.party (found_at (state_of b) c.args.slip.counterparty c.in-Ok.ensures.is) c.if-slip-self.false (c.if-slip-len.false ∙ c.len.ensures.count) e c.in-Some.is in
+    let does = enter_done (house g b) (state_of b) (slip_of c.args.slip) c.in-Ok.party (found_at (state_of b) c.args.slip.counterparty c.in-Ok.ensures.is) c.if-slip-self.false last e c.in-Some.is in
     record {
       answers = does.answers;
       leaves = ap (with_parties (house g b) (state_of b)) parties ∙ does.leaves;

@@ -5,14 +5,14 @@ use Rattle.histories.specs.Calls.{change}
 use Rattle.tables.specs.Entries.{entries}
 use Rattle.querybox.specs.Parties.{blank_entry}
 use Rattle.querybox.proofs.Views.{change-set}
-use Rattle.querybox.proofs.party.Party.replaced.Goals as goal
+use Rattle.querybox.proofs.party.Party.replace.Goals as goal
 
 abbrev replying : Reply → Entry → Entry
 replying a e = record { question = e.question; reply = a }
 
 pub returns : goal.returns
 returns c =
-    let es : List Entry = entries c.args.self.log in
+    let es : List Entry = entries c.args.self.now.log in
     let said : entries c.replace.new.self ≡ change (replying c.args.reply) es c.args.place =
     c.replace.ensures ∙ ap (λ (xs : List Entry). set es c.args.place (replying c.args.reply (get_or xs c.args.place blank_entry))) c.as_slice.ensures
     ∙ sym (change-set (replying c.args.reply) es c.args.place blank_entry) in
